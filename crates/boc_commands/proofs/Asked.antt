@@ -1,6 +1,7 @@
 -- What `whatif`, `curve` and `sweep` answer.
 use Rattle.std.proofs.Common.{◌≡◌, ℕ, ◌+◌, ◌≤◌, List, ◌++◌, length, Option, Result, Ok, Err, sym, ap, ◌∙◌, subst, arith}
 use Rattle.std.specs.Result.{IsErrAnd}
+use Rattle.std.proofs.KnownBytes.{Keeps-refl}
 use Rattle.std.proofs.lemmas.List.{append-nil}
 use Rattle.boc_text.specs.Streams.{ReadsWhole, StopsAt}
 use Rattle.boc_program.specs.declared.limits.TheConstants.{MOST_TEXT}
@@ -67,6 +68,12 @@ pub stopped : (IsText : List ℕ → Type 0) (r : Result (Unit {0}) Fault) (gone
     → IsErrAnd r (λ f. f ≡ faults.Means (means.Sink gone)) → IsText text → StopsAt gone text old new → Leaves IsText r old new
 stopped IsText (Ok done) gone text old new h is stops = absurd h
 stopped IsText (Err f) gone text old new h is stops = subst (λ x. Leaves {A = Unit {0}} IsText (Err x) old new) (sym h) (text, is, stops)
+
+-- nothing went out where there was no memory
+pub out_of_memory : (IsText : List ℕ → Type 0) (r : Result (Unit {0}) Fault) (same : Option (List ℕ)) → IsErrAnd r (λ f. f ≡ faults.Means means.Memory)
+    → Leaves IsText r same same
+out_of_memory IsText (Ok done) same h = absurd h
+out_of_memory IsText (Err f) same h = subst (λ x. Leaves {A = Unit {0}} IsText (Err x) same same) (sym h) (Keeps-refl same)
 
 -- an answer to a text that was taken whole, as what went out
 pub answers_text : (IsAnswer : List ℕ → List ℕ → Type 0) (before after : Option (List ℕ)) (text seen made output : List ℕ)

@@ -1,5 +1,6 @@
 -- The best ends of a sweep.
-use Rattle.std.proofs.Common.{◌≡◌, ◌∙◌, ◌+◌, ◌<◌, ◌++◌, ℕ, List, [], ◌∷◌, length, take, get_or, sym, ap, subst, refl, append_assoc}
+use Rattle.std.proofs.Common.{◌≡◌, ◌∙◌, ◌+◌, ◌<◌, ◌≤◌, ◌^◌, ◌++◌, ℕ, List, [], ◌∷◌, All, length, take, get_or, sym, ap, subst, refl, append_assoc, arith}
+use Rattle.boc_program.specs.declared.limits.TheConstants.{MOST_ROWS}
 use Rattle.std.proofs.lemmas.List.{append-nil, take_more}
 use Rattle.boc_runs.specs.declared.rows.Row.{Row}
 use Rattle.boc_runs.specs.Records.{Recorded}
@@ -48,3 +49,14 @@ best_of sharing kept over most input r rows count first was ends read all listed
       best_are = record { all = all; ranked = subst (λ (l : List ℕ). AreRanked l all) are ranked; first_are = refl };
       text = is ∙ text ∙ ap (λ l. best_lines was first (take most l)) list ∙ ap (λ n. best_lines was n (take most all)) from;
     }
+
+-- the places of so many ends fit in 32 bits
+pub places_fit : (ends read : List ℕ) (placed shown : List Placed) → length ends ≤ MOST_ROWS → read ≡ ends → All (λ p. p.place < length read) placed
+    → shown ≡ placed → All (λ p. p.place < 2 ^ 32) shown
+places_fit ends read placed shown few same below is = subst (All (λ p. p.place < 2 ^ 32)) (sym is) (λ k d inside. fits (get_or placed k d).place (below k d inside))
+  where
+    same_length : length read ≡ length ends
+    same_length = ap length same
+
+    fits : (place : ℕ) → place < length read → place < 2 ^ 32
+    fits place low = omega (arith, low, few, same_length)

@@ -1,6 +1,6 @@
 use Rattle.std.proofs.Common.{◌∙◌}
-use Rattle.boc_commands.proofs.Asked.{stopped}
-use Rattle.boc_commands.proofs.BestEnds.{best_of}
+use Rattle.boc_commands.proofs.Asked.{out_of_memory, stopped}
+use Rattle.boc_commands.proofs.BestEnds.{best_of, places_fit}
 use Rattle.boc_commands.proofs.best.best_cmd.Goals as goal
 
 pub returns-clause-written : goal.returns-clause-written
@@ -35,3 +35,17 @@ returns-in_err-put_out-clause-written g c =
           c.in_ok-question.ensures.sharing c.in_ok-ends.ensures.swept c.in_ok-was.ensures c.deref.ensures.value c.in_ok-all.ensures.ranked
           c.deref-2.ensures.value c.first_number.ensures c.in_ok-text.ensures c.deref-3.ensures.value;
     }) c.in_err-put_out.ensures.stopped
+
+pub returns-in_err-was-clause-written : goal.returns-in_err-was-clause-written
+returns-in_err-was-clause-written g c = out_of_memory _ _ _ c.from_residual-in_err-was.ensures.1
+
+pub returns-in_err-all-clause-written : goal.returns-in_err-all-clause-written
+returns-in_err-all-clause-written g c = out_of_memory _ _ _ c.from_residual-in_err-all.ensures.1
+
+pub returns-in_err-text-clause-written : goal.returns-in_err-text-clause-written
+returns-in_err-text-clause-written g c = out_of_memory _ _ _ c.from_residual-in_err-text.ensures.1
+
+pub best_text-requires : goal.best_text-requires
+best_text-requires g c =
+    places_fit c.in_ok-ends.ends.items c.deref.result.now c.in_ok-all.all.items c.deref-2.result.now c.in_ok-ends.ensures.few c.deref.ensures.value
+    c.in_ok-all.ensures.below c.deref-2.ensures.value

@@ -1,5 +1,5 @@
 use Rattle.std.proofs.Common.{◌∙◌}
-use Rattle.boc_commands.proofs.Asked.{drawn, stopped}
+use Rattle.boc_commands.proofs.Asked.{drawn, out_of_memory, stopped}
 use Rattle.boc_commands.proofs.curve.curve_cmd.Goals as goal
 
 pub returns-clause-written : goal.returns-clause-written
@@ -32,3 +32,6 @@ returns-in_err-put_out-clause-written g c =
           (c.in_ok-question.ensures.rows ∙ asked.2) c.in_ok-question.ensures.sharing c.work.ensures c.span.ensures c.in_ok-points.ensures
           c.deref.ensures.value c.in_ok-answer.ensures c.deref-2.ensures.value;
     }) c.in_err-put_out.ensures.stopped
+
+pub returns-in_err-answer-clause-written : goal.returns-in_err-answer-clause-written
+returns-in_err-answer-clause-written g c = out_of_memory _ _ _ c.from_residual-in_err-answer.ensures.1

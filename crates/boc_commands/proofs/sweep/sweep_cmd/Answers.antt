@@ -1,6 +1,6 @@
 use Rattle.std.proofs.Common.{List, ℕ, ◌∙◌}
 use Rattle.boc_report.specs.Texts.{sweep_lines}
-use Rattle.boc_commands.proofs.Asked.{swept, unwritten}
+use Rattle.boc_commands.proofs.Asked.{out_of_memory, swept, unwritten}
 use Rattle.boc_commands.proofs.sweep.sweep_cmd.Goals as goal
 
 pub returns-clause-written : goal.returns-clause-written
@@ -34,3 +34,6 @@ returns-in_err-write_sweep-clause-written g c =
           (c.in_ok-question.ensures.rows ∙ asked.2) asked.3 c.in_ok-question.ensures.sharing c.in_ok-ends.ensures.swept c.deref.ensures.value
           c.first_number.ensures;
     }) c.in_err-write_sweep.ensures.written
+
+pub returns-in_err-ends-clause-written : goal.returns-in_err-ends-clause-written
+returns-in_err-ends-clause-written g c = out_of_memory _ _ _ c.from_residual-in_err-ends.ensures.1

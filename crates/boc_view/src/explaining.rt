@@ -23,25 +23,22 @@ pub(crate) fn explained(
         }
         Fault::Input(fault) => explained_input(alloc, *fault, wanted, input, beside),
         Fault::Run(RunFault::Behaviours) if input.is_whole() => {
-            explain_behaviours(alloc, input.as_slice(), depth_of(wanted.schedule))
+            explain_behaviours(alloc, input.as_slice(), depth_of(&wanted.schedule))
         }
         _ => Ok(String::new(alloc)),
     }
 }
 
 // How a run is drawn, if it is drawn at a depth.
-fn depth_of(schedule: Schedule) -> Option<AtDepth> {
-    match schedule {
-        Schedule::Drawn {
-            workers,
-            depth: Some(depth),
-            ..
-        } => Some(AtDepth {
-            workers: workers.number(),
-            depth,
-        }),
-        _ => None,
-    }
+fn depth_of(schedule: &Schedule) -> Option<AtDepth> {
+    let (workers, depth) = match schedule {
+        Schedule::Drawn { workers, depth, .. } => (*workers, *depth),
+        Schedule::Threads(_) => return None,
+    };
+    Some(AtDepth {
+        workers: workers.number(),
+        depth: depth?,
+    })
 }
 
 // The lines behind that of a fault of the input.

@@ -281,18 +281,22 @@ def reproductions(_program):
 
 def totals(_program):
     with tempfile.TemporaryDirectory(prefix="boc-totals-") as room:
-        script, tests, kit = (os.path.join(room, name) for name in ("bin/test", "tests/program", "tools/rt"))
+        script, tests, guarded, kit = (os.path.join(room, name) for name in ("bin/test", "tests/program", "tests/guarded", "tools/rt"))
         for path in (script, tests, kit):
             os.mkdir(os.path.dirname(path))
         shutil.copy(os.path.join(TOP, "bin", "test"), script)
-        for name in ["cat", "dirname", "mktemp", "rm", "sed", "tail", "tee"]:
+        write_script(guarded, "[ -f \"$1\" ] && echo '0 passed, 0 failed'")
+        for name in ["cat", "dirname", "mktemp", "mv", "rm", "sed", "tail", "tee"]:
             os.symlink(shutil.which(name), os.path.join(room, "tools", name))
         for name, gate_says, tests_say, line, status in TOTALS:
             write_script(kit, gate_says)
             write_script(tests, tests_say)
             yield f"test where {name}", fault_of_total(script, os.path.dirname(kit), line, status)
-        os.remove(kit)
+        write_script(kit, "echo rt has tried; echo '5 passed, 0 failed'")
         write_script(tests, "echo '7 passed, 0 failed'")
+        write_script(guarded, "[ \"$(cat \"$1\")\" = \"$(rt)\" ] && echo '21 passed, 2 failed'; exit 1")
+        yield "test where a wrong body was not tried", fault_of_total(script, os.path.dirname(kit), "33 passed, 2 failed", 1)
+        os.remove(kit)
         yield "test without the kit", fault_of_total(script, os.path.dirname(kit), "7 passed, 1 failed", 1)
 
 

@@ -123,9 +123,10 @@ def write_whole(path, data):
             os.remove(made)
 
 
-def prove_copy(room, words):
-    """Copies what the programs are made of to an empty folder, has `rt ci` prove and build them there, and tells how that ended."""
+def copy_sources(room):
+    """Copies what the programs are made of to a folder."""
     wanted = below(read_crates(), *PROGRAMS)
+    os.makedirs(room, exist_ok=True)
     with open(os.path.join(TOP, "crates.txt")) as lines, open(os.path.join(room, "crates.txt"), "w") as kept:
         kept.writelines(line for line in lines if name_of(line) in wanted)
     shutil.copy(os.path.join(TOP, "HANDLES"), room)
@@ -133,4 +134,9 @@ def prove_copy(room, words):
     for crate in wanted:
         shutil.copytree(os.path.join(TOP, "crates", crate), os.path.join(room, "crates", crate),
                         ignore=shutil.ignore_patterns("out", "must-fail", "build.log"))
+
+
+def prove_copy(room, words):
+    """Copies what the programs are made of to an empty folder, has `rt ci` prove and build them there, and tells how that ended."""
+    copy_sources(room)
     return subprocess.run(["rt", "ci", *words], cwd=room, stdout=sys.stderr, check=False).returncode

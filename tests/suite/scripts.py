@@ -132,6 +132,82 @@ def shipments_that_do_not_run(_program):
         yield "a program that does not start on this machine", refusal(copy.transfer(), 70, "GNU C library", "does not start here")
 
 
+# bin/unproved.
+
+# What stands for a kit's `rt try`: it has its compiler make a module, a script that tells the crate and the version, and is as large as a program's.
+TRIES = """\
+here=$(dirname "$(dirname "$(readlink -f "$0")")")
+[ "$1" = try ] || exit 2
+[ ! -e {fails} ] || {{ echo 'error[stub]: no such name' >&2; exit 1; }}
+crate=$(basename "$PWD")
+cd "$(mktemp -d)"
+{{
+    printf '#!/bin/sh\\nexec cat <<END\\n%s\\n' "$crate"
+    cat "$OLDPWD/../boc_words/src/version.rt"
+    printf 'END\\n'
+    head -c 1000001 /dev/zero | tr '\\0' '#'
+}} > module.bc
+"$here/toolchain/bin/clang" -c -x ir module.bc -o module.o
+"""
+
+# Its compiler and its linker take the text of a module for what is made of it.
+COMPILES = """\
+for word; do case "$word" in *.bc|*.ll) [ -n "$in" ] || in=$word ;; esac; out=$word; done
+cp "$in" "$out"
+"""
+LINKED = """\
+while [ $# -gt 0 ]; do case "$1" in -o) out=$2 ;; */module.o) in=$1 ;; esac; shift; done
+cp "$in" "$out"
+"""
+
+
+def lay_tries(copy):
+    """Puts a kit on the copy's PATH that can try programs. Its path, and that of a file by which a try fails."""
+    kit, fails = (os.path.join(copy.room, name) for name in ["kits", "fails"])
+    for folder in ["bin", "toolchain/bin", "toolchain/lib", "c", "rattle"]:
+        os.makedirs(os.path.join(kit, folder))
+    path = f"PATH={os.environ['PATH']}\n"
+    for name, text in [("bin/rt", TRIES.format(fails=fails)), ("bin/rtlib.py", ""), ("bin/rattle", "exit 0"),
+                       ("toolchain/bin/clang", COMPILES), ("toolchain/bin/ld.lld", LINKED)]:
+        write_script(os.path.join(kit, name), path + text)
+    os.remove(os.path.join(copy.kit, "rt"))
+    os.symlink(os.path.join(kit, "bin", "rt"), os.path.join(copy.kit, "rt"))
+    return fails
+
+
+def unproved(_program):
+    with copied_of_few() as copy:
+        os.symlink(os.path.join(copy.kit, "python3"), os.path.join(copy.tools, "python3"))
+        yield "unproved without the kit", of_status(copy.run("values", command="bin/unproved"), 127, "the command rt of the Rattle kit is not on the PATH")
+        fails, before = lay_tries(copy), shipment(copy)
+        with open(copy.path(tree.VERSION), "rb") as file:
+            version = file.read()
+        folder = os.path.join(copy.room, "un proved")
+
+        def answer(*words):
+            return copy.run(*words, command="bin/unproved", kit=True)
+
+        yield "both programs without a proof", of_status(answer("--build", folder), 0, "boc-view")
+        for name, crate in [("boc", "boc"), ("boc-view", "boc_view")]:
+            made = copy.answer([os.path.join(folder, name), "--version"])
+            yield f"{name} without a proof says so", of_status(made, 0, crate, "\\nunproved\\n")
+        with open(copy.path(tree.VERSION), "rb") as file:
+            yield "the version of the sources stays", None if file.read() == version else "it was changed"
+        alone = os.path.join(copy.room, "alone")
+        yield "one program", of_status(answer("--build", alone, "boc-view"), 0) or (None if os.listdir(alone) == ["boc-view"] else str(os.listdir(alone)))
+        os.symlink(copy.path("dist"), os.path.join(copy.room, "link"))
+        for place in [copy.path("dist"), copy.path("dist/../dist"), os.path.join(copy.room, "link"), copy.path("bin"), copy.path("crates/boc/out"), copy.path(".")]:
+            yield f"no unproved programs into {os.path.relpath(place, copy.room)}", of_status(answer("--build", place), 1, "bin/unproved:")
+        yield "what is shipped stays", None if shipment(copy) == before else "it was changed"
+        for words in [["--build"], ["--build", folder, "bocs"], ["--build", folder, "boc", "boc"]]:
+            yield f"bin/unproved with {len(words)} words", of_status(answer(*words), 1, "--build takes a FOLDER")
+        with open(fails, "w"):
+            pass
+        last = os.path.join(copy.room, "last")
+        yield "sources that can't be tried", of_status(answer("--build", last), 1, "no such name", "boc can't be tried")
+        yield "and no program is left", None if not os.listdir(last) else f"{os.listdir(last)}"
+
+
 # bin/install.
 
 def installs(_program):
@@ -378,4 +454,4 @@ def answer_of(*command):
 
 
 # The longest come first.
-PARTS = [installs, ships, reproductions, builds, groups, calls, wrong_bodies, edits, benches, totals, shipments_that_do_not_run]
+PARTS = [installs, unproved, ships, reproductions, builds, groups, calls, wrong_bodies, edits, benches, totals, shipments_that_do_not_run]

@@ -1,4 +1,5 @@
-"""The documents for users: the output that each shows below a command is what the command prints, and each link of a document leads somewhere.
+"""The documents: outputs that those for users show below a command are what the command prints, links lead somewhere, the list of contracts is that of the
+sources, and the list of crates that of crates.txt.
 
 The handbook has a group of its own, whose readers of blocks and of commands are taken here. A block of kind `text` shows a run by the clock, which is another
 one each time, and is not compared.
@@ -7,6 +8,8 @@ import collections
 import glob
 import os
 import re
+import subprocess
+import sys
 import tempfile
 
 from .copies import TOP, tree
@@ -15,8 +18,11 @@ from .copies import view_of
 from .running import Program
 from .words import commands_in
 
+import contracts
+
 README = "README.md"
 COMMANDS = os.path.join("docs", "COMMANDS.md")
+ARCHITECTURE = os.path.join("docs", "ARCHITECTURE.md")
 SHOWING = [README, COMMANDS, os.path.join("docs", "RECORDS.md")]
 NARROW = [*SHOWING, os.path.join("docs", "GLOSSARY.md")]
 LINKED = ["*.md", "docs/*.md", "editors/*.md", "examples/*/*.md"]
@@ -27,6 +33,64 @@ CODE = re.compile(r"^```.*?^```$|`[^`\n]+`", re.DOTALL | re.MULTILINE)
 LINK = re.compile(r"\]\(([^)\s]+)\)")
 HEADING = re.compile(r"^#+ (.+)$", re.MULTILINE)
 OPTION = re.compile(r"^ +(?:-\w, )?--([a-z-]+)", re.MULTILINE)
+CRATES = re.compile(r"(?:^\| `\w+` \| \d+ \|.*\n)+", re.MULTILINE)
+CRATE = re.compile(r"^\| `(\w+)` \| (\d+) \|", re.MULTILINE)
+
+# A source of each kind of contract, and what is listed of it.
+WORKED_SOURCE = """\
+//! Numbers.
+ghost use Rattle.boc_plans.specs.Plans.{Keeps, start_of as first};
+
+/// Adds one to `n`. It can't
+/// wrap: "}".
+#[tactic(auto)]
+pub fn next(n: u32) -> [u8; 4]
+    requires small { n < 9 }
+    ensures { Keeps result
+        { n } }
+{ "}" }
+
+pub(crate) fn inner() -> u32 ensures one { result ≡ 1 } { 1 }
+
+/// Nothing is promised of it.
+pub fn plain() {}
+
+/// Pairs rise.
+pub fn rise() ensures { first ≡ 0 } {}
+
+/// A pair.
+pub struct Pair { pub ghost ordered: { a ≤ b }, a: u32, b: u32 }
+
+struct Hidden { ghost ordered: { a ≤ b } }
+
+impl Pair {
+    // No word for others.
+    fn inner(&self) ensures { a ≡ b };
+
+    /// The sum.
+    pub fn sum(&self) -> u32 ensures { result ≡ a + b } { a + b }
+}
+
+impl<T: Into<u32>> Into<T> for Pair {
+    /// Becomes a number.
+    fn into(&self) -> u32 ensures { result ≡ a } { a }
+}
+
+pub trait Shape {
+    /// Draws it.
+    fn draw(&self) requires { Fits self };
+}
+
+impl Hidden { pub fn sum(&self) ensures { 0 ≡ 0 } {} }
+"""
+WORKED_ITEMS = [
+    ("next", "Adds one to `n`.", ["requires small n < 9", "ensures  Keeps result { n }"], ["Keeps"]),
+    ("rise", "Pairs rise.", ["ensures  first ≡ 0"], ["start_of"]),
+    ("Pair", "A pair.", ["keeps ordered a ≤ b"], []),
+    ("Pair::sum", "The sum.", ["ensures  result ≡ a + b"], []),
+    ("Pair::into", "Becomes a number.", ["ensures  result ≡ a"], []),
+    ("Shape::draw", "Draws it.", ["requires  Fits self"], []),
+]
 
 
 def read(name):
@@ -77,6 +141,39 @@ def cases(program):
     yield "the length of README", f"{lines} lines, and not {MOST_LINES} at most" if lines > MOST_LINES else None
     yield "the def in README", fault_of_snippet(read(README), program.example("pipeline.boc").decode())
     yield from commands_documented(program, read(COMMANDS))
+    yield "the worked contracts", fault_of_worked()
+    yield contracts.DOCUMENT, fault_of_contracts()
+    yield f"the crates of {ARCHITECTURE}", fault_of_crates(read(ARCHITECTURE), tree.read_crates())
+
+
+def fault_of_contracts():
+    """The list of contracts is what bin/contracts prints, which takes no other word."""
+    script = os.path.join(TOP, "bin", "contracts")
+    printed, refused = (subprocess.run([sys.executable, script, word], capture_output=True, text=True, encoding="utf-8") for word in ("--print", "--write"))
+    if refused.returncode != 1 or refused.stdout or "contracts [--print]" not in refused.stderr:
+        return f"of --write bin/contracts says {refused}"
+    return None if printed.stdout == read(contracts.DOCUMENT) else "the sources have other contracts: bin/contracts writes it anew"
+
+
+def fault_of_worked():
+    """What is listed of a worked source: names, first sentences, clauses, and the definitions that these name."""
+    source = contracts.Source("a.rt", WORKED_SOURCE, contracts.masked(WORKED_SOURCE), True, True, {"Pair", "Shape"}, set())
+    found = [(item.name, item.says, [f"{one.kind} {one.name} {one.text}" for one in item.clauses], [own for one in item.clauses for _, _, own in one.cites])
+             for item in contracts.listed(source)]
+    laws = [item.name for item in contracts.listed(source) if item.is_law]
+    return None if found == WORKED_ITEMS and laws == ["rise"] else f"{found}, of which {laws} are laws"
+
+
+def fault_of_crates(text, uses):
+    """Each crate is in one table, with its depth, and those of greater depth come later there. A crate that uses none has depth 1, any other one more than
+    the deepest that it uses."""
+    depths = {}
+    for crate, used in uses.items():
+        depths[crate] = 1 + max((depths[low] for low in used), default=0)
+    tables = [[(crate, int(depth)) for crate, depth in CRATE.findall(table)] for table in CRATES.findall(text)]
+    if sorted(row for rows in tables for row in rows) != sorted(depths.items()):
+        return f"it has {sorted(set(depths.items()) ^ {row for rows in tables for row in rows})} too much or too little, or a crate twice"
+    return None if all(rows == sorted(rows, key=lambda row: row[1]) for rows in tables) else "they are not in the order of their depths"
 
 
 def shown(folder, name, text):

@@ -1,7 +1,8 @@
 -- Settling a request that has one before it.
 use Rattle.std.proofs.Common.{◌≡◌, ◌≢◌, ℕ, Bool, true, false, cond, List, sym, ◌∙◌, ap}
-use Rattle.std.specs.Prelude.{Some, Option}
+use Rattle.std.specs.Prelude.{Some}
 use Rattle.std.specs.Option.{option_map}
+use Rattle.slab.specs.Slab.{Slab}
 use Rattle.boc_chain.specs.declared.request.Request.{Request}
 use Rattle.boc_chain.specs.declared.request.Settled.TheVariants.{Linked as SettleLinked, Blocked}
 use Rattle.boc_chain.specs.declared.linked.Node.{Node}
@@ -13,8 +14,8 @@ use Rattle.boc_chain.proofs.Steps.{behind_answer, linked_spelled, blocked_spelle
 use Rattle.boc_chain.proofs.Placed.{Neighbour, at_kept, before_it, linked_placed}
 
 -- the link of a request names m as the one before it, whose link is la
-module _ {held : List (Option Linked)} {c : ℕ} {own m : Node} {xs : List Request} {l la : Link} (h : Holds held c own xs)
-    (got : stored held own.slot c ≡ Some l) (is : l.before ≡ Some m) (ahead : IsAt held m c → stored held m.slot c ≡ Some la) where
+module _ {held : Slab Linked} {c : ℕ} {own m : Node} {xs : List Request} {l la : Link} (h : Holds held c own xs) (got : stored held own.slot c ≡ Some l)
+    (is : l.before ≡ Some m) (ahead : IsAt held m c → stored held m.slot c ≡ Some la) where
   it : Neighbour held c m xs
   it = before_it held c own m xs l h got is
 
@@ -35,7 +36,7 @@ module _ {held : List (Option Linked)} {c : ℕ} {own m : Node} {xs : List Reque
   blocked_behind e = blocked_spelled (links held) c own.slot m.slot xs (seen l) (seen la) h.inside (ap (option_map seen) got) named tie_ahead e
 
   -- and where it is: it is linked first
-  pub linked_behind : (mid held' : List (Option Linked)) → la.scheduled ≡ true
+  pub linked_behind : (mid held' : Slab Linked) → la.scheduled ≡ true
       → ((d : ℕ) (k : Link) → IsAt held m d → stored held m.slot d ≡ Some k → stored mid m.slot d ≡ Some (record k { next = Some own }))
       → ((s d : ℕ) → s ≢ m.slot → stored mid s d ≡ stored held s d) → ((s : ℕ) → place_at mid s ≡ place_at held s)
       → ((d : ℕ) (k : Link) → IsAt mid own d → stored mid own.slot d ≡ Some k → stored held' own.slot d ≡ Some (record k { settled = true }))

@@ -3,6 +3,7 @@ use Rattle.std.proofs.Common.{◌≡◌, ◌≢◌, ◌↔◌, ℕ, zero, suc, �
 use Rattle.std.proofs.Common.{refl, sym, ◌∙◌, ap, subst, inl, inr, arith, length-set, get_or-set_same, get_or-set_other}
 use Rattle.std.specs.Prelude.{Option, Some, None, slice_get, slice_index_or, position, ◌==◌, replicate, is_some, IsSome, count_by}
 use Rattle.std.specs.Option.{option_map, option_and_then}
+use Rattle.slab.specs.Slab.{Slab, get, slab_len, Updates}
 use Rattle.boc_chain.specs.declared.request.Request.{Request}
 use Rattle.boc_chain.specs.declared.request.Released.TheVariants.{Unhooked, Passed, Blocked}
 use Rattle.boc_chain.specs.declared.linked.Node.{Node}
@@ -11,12 +12,10 @@ use Rattle.boc_chain.specs.KeptLinks.{Linked}
 use Rattle.boc_chain.specs.Chain.{IsGranted, StandsIn, times, slots, list, list_for, with_change, cowns_of, exchanged_of, cown, one_more, fresh}
 use Rattle.boc_chain.specs.Chain.{with_fresh, slot_of, last_slot, before, with_flagged, after_settle, leave_answer, after_leave}
 use Rattle.boc_chain.specs.Links.{Tie, Spells, end_of, next_of}
-use Rattle.boc_chain.specs.Linked.{linked_at, held_in, stored_in, stored, seen, links, IsAt, IsPlaced, Holds, Leads}
-use Rattle.boc_chain.specs.Linked.{last_at, place_in, place_at, slot_at, IsSpelled, IsList}
+use Rattle.boc_chain.specs.Linked.{stored_in, stored, seen, links, IsAt, IsPlaced, Holds, Leads, last_at, place_in, place_at, slot_at, IsSpelled, IsList}
 use Rattle.boc_chain.specs.Linked.{IsLinked, last_of, line, from, lists_of, passed}
 use Rattle.boc_chain.proofs.Lines.{same_or_not, cowns_one_more}
 use Rattle.boc_chain.proofs.Fuel.{read}
-use Rattle.boc_chain.proofs.Longer.{Changes}
 use Rattle.boc_chain.proofs.Spelled.{has_link, slots_flagged, slots_append, times_append, times_other}
 use Rattle.boc_chain.proofs.Placed.{at_kept, placed_put, own_at, no_cown, has_stored, holds_it}
 use Rattle.boc_chain.proofs.Places.{no_link, stands}
@@ -35,17 +34,15 @@ below_too c k n e h = omega arith
 last_read : (last : List (Option Node)) (c k : ℕ) (b : Option Node) → c ≡ k → k < length last → b ≡ slice_index_or last c b → b ≡ last_at last c
 last_read last c k b e h is = is ∙ any_default last c b None (below_too c k (length last) e h)
 
-line_is : (last : List (Option Node)) (held : List (Option Linked)) (c k : ℕ) → c ≡ k → k < length last → list (lists_of last held) k ≡ line last held c
+line_is : (last : List (Option Node)) (held : Slab Linked) (c k : ℕ) → c ≡ k → k < length last → list (lists_of last held) k ≡ line last held c
 line_is last held c k e h = list_is last held k h ∙ ap (line last held) (sym e)
 
 -- the request that a call is for is at its place
-at_now : (last : List (Option Node)) (held : List (Option Linked)) (peak c : ℕ) (own : Node) → IsLinked last held peak
-    → c ≡ cown (place_at held own.slot) own.place
+at_now : (last : List (Option Node)) (held : Slab Linked) (peak c : ℕ) (own : Node) → IsLinked last held peak → c ≡ cown (place_at held own.slot) own.place
     → own.place < length (cowns_of (place_at held own.slot)) → IsAt held own c
 at_now last held peak c own h e there = subst (λ x. IsAt held own x) (sym e) (own_at held own (h.distinct own.slot) there)
 
-in_now : (last : List (Option Node)) (held : List (Option Linked)) (peak c k : ℕ) (own : Node) → IsLinked last held peak → c ≡ k → k < length last
-    → IsAt held own c
+in_now : (last : List (Option Node)) (held : Slab Linked) (peak c k : ℕ) (own : Node) → IsLinked last held peak → c ≡ k → k < length last → IsAt held own c
     → 0 < times own.slot (slots (list (lists_of last held) k)) → Holds held c own (line last held c)
 in_now last held peak c k own h e b at m = record {
   inside = record {
@@ -56,8 +53,7 @@ in_now last held peak c k own h e b at m = record {
   placed = h.placed c (below_too c k (length last) e b);
 }
 
-front_now : (last : List (Option Node)) (held : List (Option Linked)) (peak c k : ℕ) (own : Node) → IsLinked last held peak → c ≡ k
-    → k < length last → IsAt held own c
+front_now : (last : List (Option Node)) (held : Slab Linked) (peak c k : ℕ) (own : Node) → IsLinked last held peak → c ≡ k → k < length last → IsAt held own c
     → IsGranted own.slot (list (lists_of last held) k) → Leads held c own (line last held c)
 front_now last held peak c k own h e b at g = record {
   front = record {
@@ -73,7 +69,7 @@ abbrev pub node_at : ℕ → ℕ → Node
 node_at slot i = record { slot = slot; place = i }
 
 -- such a request, as a call finds it
-module _ {last : List (Option Node)} {held : List (Option Linked)} {peak : ℕ} (h : IsLinked last held peak) (slot i : ℕ)
+module _ {last : List (Option Node)} {held : Slab Linked} {peak : ℕ} (h : IsLinked last held peak) (slot i : ℕ)
     (there : i < length (cowns_of (place_at held slot))) where
   own_at_now : IsAt held (node_at slot i) (cown (place_at held slot) i)
   own_at_now = at_now last held peak (cown (place_at held slot) i) (node_at slot i) h refl there
@@ -108,10 +104,10 @@ module _ {last : List (Option Node)} {held : List (Option Linked)} {peak : ℕ} 
   said_of P told m = subst P (sym (line_is last held (cown (place_at held slot) i) (cown (place_at held slot) i) refl (h.in_range slot i there)))
       (told _ _ (own_holds m))
 
-  pub flag_call : (held' : List (Option Linked)) → StandsIn (list_for (lists_of last held) (place_at held slot) i) slot
+  pub flag_call : (held' : Slab Linked) → StandsIn (list_for (lists_of last held) (place_at held slot) i) slot
       → ((c : ℕ) (l : Link) → IsAt held (node_at slot i) c → stored held slot c ≡ Some l → stored held' slot c ≡ Some (record l { scheduled = true }))
       → ((s d : ℕ) → s ≢ slot → stored held' s d ≡ stored held s d) → ((c s d : ℕ) → IsAt held (node_at slot i) c → d ≢ c → stored held' s d ≡ stored held s d)
-      → ((s : ℕ) → place_at held' s ≡ place_at held s) → held_in held' ≡ held_in held
+      → ((s : ℕ) → place_at held' s ≡ place_at held s) → slab_len held' ≡ slab_len held
       → IsLinked last held' peak × (lists_of last held' ≡ with_change (with_flagged slot) (lists_of last held) (place_at held slot) i)
   flag_call held' m here slots_same cowns_same places len =
       let c = cown (place_at held slot) i in
@@ -128,11 +124,11 @@ module _ {last : List (Option Node)} {held : List (Option Linked)} {peak : ℕ} 
       (λ s. ap cowns_of (places s)) put (record { before = names.before; next = names.next }) (λ t n. slots_same t c n))
       (λ n q. at_kept held held' n c (ap cowns_of (places n.slot)) (h.ended c n (h.in_range slot i there) q))
 
-  pub settle_call : (held' : List (Option Linked)) → StandsIn (list_for (lists_of last held) (place_at held slot) i) slot
+  pub settle_call : (held' : Slab Linked) → StandsIn (list_for (lists_of last held) (place_at held slot) i) slot
       → ((c : ℕ) (xs : List Request) → Holds held c (node_at slot i) xs → IsSpelled (links held') c (after_settle slot xs))
       → ((c : ℕ) (xs : List Request) → Holds held c (node_at slot i) xs → IsPlaced held' c (after_settle slot xs))
       → ((c s d : ℕ) (xs : List Request) → Holds held c (node_at slot i) xs → d ≢ c → stored held' s d ≡ stored held s d)
-      → ((s : ℕ) → place_at held' s ≡ place_at held s) → held_in held' ≡ held_in held
+      → ((s : ℕ) → place_at held' s ≡ place_at held s) → slab_len held' ≡ slab_len held
       → IsLinked last held' peak × (lists_of last held' ≡ with_change (after_settle slot) (lists_of last held) (place_at held slot) i)
   settle_call held' m spelled placed cowns_same places len =
       let c = cown (place_at held slot) i in
@@ -169,16 +165,16 @@ last_is [] = refl
 last_is (r ∷ xs) = ap (λ n. option_map slot_of (slice_get (r ∷ xs) n)) (let e : suc (length xs) - 1 ≡ length xs = omega arith in e) ∙ end_get r xs
 
 -- its cown was read
-module _ {last : List (Option Node)} {held : List (Option Linked)} {peak : ℕ} (h : IsLinked last held peak) (slot i : ℕ)
+module _ {last : List (Option Node)} {held : Slab Linked} {peak : ℕ} (h : IsLinked last held peak) (slot i : ℕ)
     (there : i < length (cowns_of (place_at held slot)))
     (c : ℕ) (e : c ≡ cown (place_at held slot) i) (b : Option Node) (is : b ≡ slice_index_or last c b) where
-  pub swap_call : (held' : List (Option Linked)) → i ≡ exchanged_of (place_at held slot)
+  pub swap_call : (held' : Slab Linked) → i ≡ exchanged_of (place_at held slot)
       → (((d : ℕ) → times d (cowns_of (place_at held slot)) ≤ 1)
       → stored held' slot (cown (place_at held slot) (exchanged_of (place_at held slot)))
       ≡ Some (record { settled = false; scheduled = false; before = b; next = None }))
       → ((s d : ℕ) → s ≢ slot → stored held' s d ≡ stored held s d)
       → ((s d : ℕ) → d ≢ cown (place_at held slot) (exchanged_of (place_at held slot)) → stored held' s d ≡ stored held s d)
-      → place_at held' slot ≡ one_more (place_at held slot) → ((s : ℕ) → s ≢ slot → place_at held' s ≡ place_at held s) → held_in held' ≡ held_in held
+      → place_at held' slot ≡ one_more (place_at held slot) → ((s : ℕ) → s ≢ slot → place_at held' s ≡ place_at held s) → slab_len held' ≡ slab_len held
       → IsLinked (set last c (Some (node_at slot i))) held' peak
       × (lists_of (set last c (Some (node_at slot i))) held' ≡ with_change (with_fresh slot) (lists_of last held) (place_at held slot) i)
   swap_call held' next here slots_same cowns_same place places len =
@@ -203,7 +199,7 @@ module _ {last : List (Option Node)} {held : List (Option Linked)} {peak : ℕ} 
       (subst (λ o. IsList (links held') c o (line last held c ++ (fresh slot ∷ [])))
       (sym (ap (option_map (λ (n : Node). n.slot)) (get_or-set_same last c (Some own) None inside)))
       (swapped (links held) (links held') c slot (last_of last c) (line last held c) (h.spelled c inside)
-      (ap (links held slot) e ∙ ap (option_map seen) (fresh_in (linked_at held slot) i (h.distinct slot) there next))
+      (ap (links held slot) e ∙ ap (option_map seen) (fresh_in (get held slot) i (h.distinct slot) there next))
       (ap (option_map seen) link ∙ ap (λ (o : Option Node). Some (seen (record { settled = false; scheduled = false; before = o; next = None }))) read)
       (λ t n. ap (option_map seen) (slots_same t c n))))
       (placed_put held held' c slot (line last held c) (line last held c ++ (fresh slot ∷ []))
@@ -256,14 +252,14 @@ answer_alone (r ∷ []) e = (refl, refl)
 answer_alone (r ∷ (x ∷ xs)) e = absurd (let f : x ∷ xs ≡ [] = e in cc)
 
 -- what is known of the front, of which `next` says who follows
-pub record Fronts (last : List (Option Node)) (held : List (Option Linked)) (peak slot i c : ℕ) (next : Option ℕ) : Type 0 where
+pub record Fronts (last : List (Option Node)) (held : Slab Linked) (peak slot i c : ℕ) (next : Option ℕ) : Type 0 where
   pub linked : IsLinked last held peak
   pub there : i < length (cowns_of (place_at held slot))
   pub same : c ≡ cown (place_at held slot) i
   pub granted : IsGranted slot (list_for (lists_of last held) (place_at held slot) i)
   pub answer : (d : ℕ) (xs : List Request) → Leads held d (node_at slot i) xs → next ≡ next_of (drop 1 xs)
 
-module _ {last : List (Option Node)} {held : List (Option Linked)} {peak slot i c : ℕ} {next : Option ℕ} (w : Fronts last held peak slot i c next) where
+module _ {last : List (Option Node)} {held : Slab Linked} {peak slot i c : ℕ} {next : Option ℕ} (w : Fronts last held peak slot i c next) where
   below : cown (place_at held slot) i < length last
   below = w.linked.in_range slot i w.there
 
@@ -336,16 +332,15 @@ module _ {last : List (Option Node)} {held : List (Option Linked)} {peak slot i 
   leave_told_last false off is = (λ f. leave_off off (λ e. absurd (let g : false ≡ true = is.1 e in cc)), λ f. refl)
 
 -- what is known as it leaves
-pub record Leaves (last : List (Option Node)) (held held' : List (Option Linked)) (peak slot i c : ℕ) (next : Option ℕ) : Type 0 where
+pub record Leaves (last : List (Option Node)) (held held' : Slab Linked) (peak slot i c : ℕ) (next : Option ℕ) : Type 0 where
   pub fronts : Fronts last held peak slot i c next
   pub spelled : (d : ℕ) (xs : List Request) → Leads held d (node_at slot i) xs → IsSpelled (links held') d (passed xs)
   pub placed : (d : ℕ) (xs : List Request) → Leads held d (node_at slot i) xs → IsPlaced held' d (passed xs)
   pub cowns_same : (e s d : ℕ) (xs : List Request) → Leads held e (node_at slot i) xs → d ≢ e → stored held' s d ≡ stored held s d
   pub places : (s : ℕ) → place_at held' s ≡ place_at held s
-  pub len : held_in held' ≡ held_in held
+  pub len : slab_len held' ≡ slab_len held
 
-module _ {last : List (Option Node)} {held held' : List (Option Linked)} {peak slot i c : ℕ} {next : Option ℕ} (w : Leaves last held held' peak slot
-    i c next) where
+module _ {last : List (Option Node)} {held held' : Slab Linked} {peak slot i c : ℕ} {next : Option ℕ} (w : Leaves last held held' peak slot i c next) where
   -- not the only one
   passes : ((r : Request) → line last held c ≡ r ∷ [] → ⊥)
       → IsLinked last held' peak × (lists_of last held' ≡ with_change after_leave (lists_of last held) (place_at held slot) i)
@@ -379,16 +374,10 @@ module _ {last : List (Option Node)} {held held' : List (Option Linked)} {peak s
 
 -- admit and dismiss
 
-pub grown : (last : List (Option Node)) (held held' : List (Option Linked)) (peak : ℕ) → IsLinked last held peak
-    → ((s : ℕ) → linked_at held' s ≡ linked_at held s) → held_in held' ≡ held_in held → IsLinked last held' peak × (lists_of last held' ≡ lists_of last held)
-grown last held held' peak h same as_many = none_changed last held held' peak peak h
-    (λ s c b m. ap (λ o. stored_in o c) (same s))
-    (λ n c b m at. ap (λ o. position (λ d. d == c) (cowns_of (place_in o))) (same n.slot) ∙ at)
-    (λ s x. subst (λ o. times x (cowns_of (place_in o)) ≤ 1) (sym (same s)) (h.distinct s x))
-    (λ s i b. subst (λ o. cown (place_in o) i < length last) (sym (same s))
-    (h.in_range s i (subst (λ o. i < length (cowns_of (place_in o))) (same s) b)))
-    (λ s i b. h.short s i (subst (λ o. i < length (cowns_of (place_in o))) (same s) b))
-    (let p = h.held in omega arith)
+pub grown : (last : List (Option Node)) (held held' : Slab Linked) (peak n : ℕ) → IsLinked last held peak → held' ≡ record held { capacity = n }
+    → IsLinked last held' peak × (lists_of last held' ≡ lists_of last held)
+grown last held held' peak n h e = subst (λ (z : Slab Linked). IsLinked last z peak × (lists_of last z ≡ lists_of last held)) (sym e)
+    (none_changed last held (record held { capacity = n }) peak peak h (λ s c b m. refl) (λ n c b m at. at) h.distinct h.in_range h.short h.held)
 
 nothing : (o : Option ℕ) → option_and_then {U = Link} (λ i. slice_get [] i) o ≡ None
 nothing None = refl
@@ -398,22 +387,22 @@ no_links : (v : Linked) (c : ℕ) → v.links ≡ [] → stored_in (Some v) c �
 no_links v c e = ap (λ (ls : List Link). option_and_then (λ i. slice_get ls i) (position (λ d. d == c) v.cowns.items)) e
     ∙ nothing (position (λ d. d == c) v.cowns.items)
 
-pub admit_call : (last : List (Option Node)) (held mid held' : List (Option Linked)) (peak key peak' : ℕ) (v : Linked) → IsLinked last held peak
-    → ((s : ℕ) → linked_at mid s ≡ linked_at held s) → held_in mid ≡ held_in held
-    → linked_at mid key ≡ None → Changes mid held' key (Some v) → v.links ≡ [] → ((c : ℕ) → times c v.cowns.items ≤ 1)
+pub admit_call : (last : List (Option Node)) (held mid held' : Slab Linked) (peak n key peak' : ℕ) (v : Linked) → IsLinked last held peak
+    → mid ≡ record held { capacity = n }
+    → get mid key ≡ None → Updates mid held' key (Some v) → v.links ≡ [] → ((c : ℕ) → times c v.cowns.items ≤ 1)
     → ((c : ℕ) → 0 < times c v.cowns.items → c < length (lists_of last held))
     → ((i : ℕ) → i < length v.cowns.items → (key < 2 ^ 16) × (i < 2 ^ 8))
-    → held_in held' ≤ peak' → IsLinked last held' peak' × (lists_of last held' ≡ lists_of last held)
-admit_call last held mid held' peak key peak' v h e as_many vacant updates none distinct range short few =
-    let g = grown last held mid peak h e as_many in
-    let at = λ (s : ℕ) (f : s ≡ key). ap (linked_at held') f ∙ updates.changed in
+    → slab_len held' ≤ peak' → IsLinked last held' peak' × (lists_of last held' ≡ lists_of last held)
+admit_call last held mid held' peak n key peak' v h e vacant updates none distinct range short few =
+    let g = grown last held mid peak n h e in
+    let at = λ (s : ℕ) (f : s ≡ key). ap (get held') f ∙ updates.changed in
     let r = none_changed last mid held' peak peak' g.0
     (λ s c b m. elim (same_or_not s key) [
       | inl f ↦ ap (λ o. stored_in o c) (at s f) ∙ no_links v c none ∙ sym (ap (λ t. stored mid t c) f ∙ ap (λ o. stored_in o c) vacant)
       | inr f ↦ ap (λ o. stored_in o c) (updates.others s f)
     ])
     (λ n c b m at_c. elim (same_or_not n.slot key) [
-      | inl f ↦ absurd (no_cown c n.place (ap (λ o. position (λ d. d == c) (cowns_of (place_in o))) (sym (ap (linked_at mid) f ∙ vacant)) ∙ at_c))
+      | inl f ↦ absurd (no_cown c n.place (ap (λ o. position (λ d. d == c) (cowns_of (place_in o))) (sym (ap (get mid) f ∙ vacant)) ∙ at_c))
       | inr f ↦ ap (λ o. position (λ d. d == c) (cowns_of (place_in o))) (updates.others n.slot f) ∙ at_c
     ])
     (λ s x. elim (same_or_not s key) [
@@ -438,11 +427,11 @@ admit_call last held mid held' peak key peak' v h e as_many vacant updates none 
     few in
     (r.0, r.1 ∙ g.1)
 
-pub dismiss_call : (last : List (Option Node)) (held held' : List (Option Linked)) (peak slot : ℕ) → IsLinked last held peak → Changes held held' slot None
-    → ((c : ℕ) → times slot (slots (list (lists_of last held) c)) ≡ 0) → held_in held' + 1 ≡ held_in held
+pub dismiss_call : (last : List (Option Node)) (held held' : Slab Linked) (peak slot : ℕ) → IsLinked last held peak → Updates held held' slot None
+    → ((c : ℕ) → times slot (slots (list (lists_of last held) c)) ≡ 0) → slab_len held' + 1 ≡ slab_len held
     → IsLinked last held' peak × (lists_of last held' ≡ lists_of last held)
 dismiss_call last held held' peak slot h updates empty len =
-    let at = λ (s : ℕ) (f : s ≡ slot). ap (linked_at held') f ∙ updates.changed in
+    let at = λ (s : ℕ) (f : s ≡ slot). ap (get held') f ∙ updates.changed in
     none_changed last held held' peak peak h
     (λ s c b m. ap (λ o. stored_in o c) (updates.others s (λ f.
     let z : times s (slots (line last held c)) ≡ 0 = ap (λ t. times t (slots (line last held c))) f
@@ -481,10 +470,10 @@ length_none : (n : ℕ) → length (let xs : List (Option Node) = replicate n No
 length_none zero = refl
 length_none (suc n) = ap (λ m. suc m) (length_none n)
 
-no_place : (held : List (Option Linked)) (s : ℕ) → held ≡ [] → linked_at held s ≡ None
+no_place : (held : Slab Linked) (s : ℕ) → held.slots ≡ [] → get held s ≡ None
 no_place held s e = ap (λ (ys : List (Option Linked)). slice_index_or ys s None) e
 
-pub new_chains : (last : List (Option Node)) (held : List (Option Linked)) (n : ℕ) → last ≡ replicate n None → held ≡ []
+pub new_chains : (last : List (Option Node)) (held : Slab Linked) (n : ℕ) → last ≡ replicate n None → held.slots ≡ []
     → IsLinked last held 0 × (lists_of last held ≡ replicate n []) × ((s : ℕ) → place_at held s ≡ None)
 unfolding lists_of
 new_chains last held n e none =
@@ -512,20 +501,20 @@ place_there : (o : Option Linked) (c : ℕ) (l : Tie) → option_map seen (store
 place_there None c l e = absurd (let f : None ≡ Some l = e in cc)
 place_there (Some v) c l e = refl
 
-pub said_last : (last : List (Option Node)) (held : List (Option Linked)) (peak c : ℕ) → IsLinked last held peak → c < length (lists_of last held)
+pub said_last : (last : List (Option Node)) (held : Slab Linked) (peak c : ℕ) → IsLinked last held peak → c < length (lists_of last held)
     → last_of last c ≡ end_of None (list (lists_of last held) c)
 said_last last held peak c h b =
     let b' : c < length last = omega (arith, lists_length last held) in
     sym (h.spelled c b').ends ∙ ap (end_of None) (sym (list_is last held c b'))
 
-pub said_links : (last : List (Option Node)) (held : List (Option Linked)) (peak c : ℕ) → IsLinked last held peak → c < length (lists_of last held)
+pub said_links : (last : List (Option Node)) (held : Slab Linked) (peak c : ℕ) → IsLinked last held peak → c < length (lists_of last held)
     → Spells (links held) c None (list (lists_of last held) c)
 said_links last held peak c h b =
     let b' : c < length last = omega (arith, lists_length last held) in
     subst (λ ys. Spells (links held) c None ys) (sym (list_is last held c b')) (h.spelled c b').spelled.spells
 
-pub said_held : (last : List (Option Node)) (held : List (Option Linked)) (peak c s : ℕ) → IsLinked last held peak → c < length (lists_of last held)
+pub said_held : (last : List (Option Node)) (held : Slab Linked) (peak c s : ℕ) → IsLinked last held peak → c < length (lists_of last held)
     → 0 < times s (slots (list (lists_of last held) c)) → IsSome (place_at held s)
 said_held last held peak c s h b m =
     let l = has_link (links held) c None (list (lists_of last held) c) s (said_links last held peak c h b) m in
-    place_there (linked_at held s) c l.0 l.1
+    place_there (get held s) c l.0 l.1

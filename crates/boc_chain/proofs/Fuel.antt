@@ -2,6 +2,7 @@
 use Rattle.std.proofs.Common.{◌≡◌, ℕ, zero, suc, ◌+◌, ◌-◌, ◌<◌, ◌≤◌, ◌⊎◌, List, [], ◌∷◌, length, refl, sym, ◌∙◌, ap, inl, inr, arith}
 use Rattle.std.specs.Prelude.{slice_index_or, Option, Some, None}
 use Rattle.std.specs.Option.{option_map}
+use Rattle.slab.specs.Slab.{Slab}
 use Rattle.boc_chain.specs.declared.request.Request.{Request}
 use Rattle.boc_chain.specs.KeptLinks.{Linked}
 use Rattle.boc_chain.specs.Chain.{times, slots}
@@ -57,23 +58,23 @@ below_or m n = elim (cases_order m n) [
 ]
 
 -- a slot with a link is there
-slot_below : (held : List (Option Linked)) (s c : ℕ) (l : Tie) → links held s c ≡ Some l → s < length held
-slot_below held s c l e = elim (below_or s (length held)) [
+slot_below : (held : Slab Linked) (s c : ℕ) (l : Tie) → links held s c ≡ Some l → s < length held.slots
+slot_below held s c l e = elim (below_or s (length held.slots)) [
   | inl f ↦ f
-  | inr f ↦ absurd (let g : None ≡ Some l = ap (λ o. option_map seen (stored_in o c)) (sym (past_end held s None f)) ∙ e in cc)
+  | inr f ↦ absurd (let g : None ≡ Some l = ap (λ o. option_map seen (stored_in o c)) (sym (past_end held.slots s None f)) ∙ e in cc)
 ]
 
-short : (held : List (Option Linked)) (c : ℕ) (xs : List Request) → IsSpelled (links held) c xs → length xs ≤ length held
+short : (held : Slab Linked) (c : ℕ) (xs : List Request) → IsSpelled (links held) c xs → length xs ≤ length held.slots
 short held c xs h =
-    let a = all_in (length held) (slots xs) (λ s m. let l = has_link (links held) c None xs s h.spells m in slot_below held s c l.0 l.1) in
-    let b = total_few (length held) (slots xs) h.once in
+    let a = all_in (length held.slots) (slots xs) (λ s m. let l = has_link (links held) c None xs s h.spells m in slot_below held s c l.0 l.1) in
+    let b = total_few (length held.slots) (slots xs) h.once in
     let e = length_slots xs in omega arith
 
 -- the walk gives the list
-pub read : (held : List (Option Linked)) (c : ℕ) (last : Option ℕ) (xs : List Request) → IsList (links held) c last xs
-    → walk (links held) c (length held) last ≡ xs
+pub read : (held : Slab Linked) (c : ℕ) (last : Option ℕ) (xs : List Request) → IsList (links held) c last xs
+    → walk (links held) c (length held.slots) last ≡ xs
 read held c last xs h =
     let few = short held c xs h.spelled in
-    ap (walk (links held) c (length held)) (sym h.ends)
-    ∙ ap (λ n. walk (links held) c n (end_of None xs)) (let e : length held ≡ length xs + (length held - length xs) = omega arith in e)
-    ∙ walk_spells (links held) c xs (length held - length xs) h.spelled.spells
+    ap (walk (links held) c (length held.slots)) (sym h.ends)
+    ∙ ap (λ n. walk (links held) c n (end_of None xs)) (let e : length held.slots ≡ length xs + (length held.slots - length xs) = omega arith in e)
+    ∙ walk_spells (links held) c xs (length held.slots - length xs) h.spelled.spells

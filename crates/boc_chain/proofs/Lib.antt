@@ -6,6 +6,7 @@ pub mod Lines
 pub mod Links
 pub mod Places
 pub mod Spelled
+pub mod Longer
 pub mod Placed
 pub mod Settles
 pub mod Fuel
@@ -14,4 +15,3 @@ pub mod Behind
 pub mod Listed
 pub mod Calls
 pub mod Keeping
-pub mod Longer

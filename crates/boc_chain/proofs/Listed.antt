@@ -2,11 +2,12 @@
 use Rattle.std.proofs.Common.{◌≡◌, ◌≢◌, ℕ, zero, suc, ◌+◌, ◌^◌, ◌<◌, ◌≤◌, List, ◌∷◌, length, set, refl, sym, ◌∙◌, ap, subst, inl, inr, arith}
 use Rattle.std.specs.Prelude.{Option, Some, None, slice_index_or}
 use Rattle.std.specs.Option.{option_map}
+use Rattle.slab.specs.Slab.{Slab, slab_len}
 use Rattle.boc_chain.specs.declared.request.Request.{Request}
 use Rattle.boc_chain.specs.declared.linked.Node.{Node}
 use Rattle.boc_chain.specs.KeptLinks.{Linked}
 use Rattle.boc_chain.specs.Chain.{times, slots, list, cowns_of, cown}
-use Rattle.boc_chain.specs.Linked.{held_in, stored, seen, links, place_at, IsAt, IsPlaced, last_at, IsList, IsLinked, last_of, line, from, lists_of}
+use Rattle.boc_chain.specs.Linked.{stored, seen, links, place_at, IsAt, IsPlaced, last_at, IsList, IsLinked, last_of, line, from, lists_of}
 use Rattle.boc_chain.specs.Links.{Tie}
 use Rattle.boc_chain.proofs.Lines.{same_or_not}
 use Rattle.boc_chain.proofs.Spelled.{agrees, end_in}
@@ -36,12 +37,12 @@ from_set f g b (suc n) (suc c) x h e others = ap (λ y. y ∷ from g (suc b) n) 
     ∙ ap (λ ys. f b ∷ ys) (from_set f g (suc b) n c x (omega arith) (ap g (let k : suc b + c ≡ b + suc c = omega arith in k) ∙ e)
     (λ d m k z. others d (omega arith) (omega arith) (λ y. z (omega arith))))
 
-pub lists_length : (last : List (Option Node)) (held : List (Option Linked)) → length (lists_of last held) ≡ length last
+pub lists_length : (last : List (Option Node)) (held : Slab Linked) → length (lists_of last held) ≡ length last
 unfolding lists_of
 lists_length last held = from_length (line last held) 0 (length last)
 
 -- the list of a cown is its line
-pub list_is : (last : List (Option Node)) (held : List (Option Linked)) (c : ℕ) → c < length last → list (lists_of last held) c ≡ line last held c
+pub list_is : (last : List (Option Node)) (held : Slab Linked) (c : ℕ) → c < length last → list (lists_of last held) c ≡ line last held c
 unfolding lists_of
 list_is last held c h = from_get (line last held) 0 (length last) c h ∙ ap (line last held) (let e : 0 + c ≡ c = omega arith in e)
 
@@ -54,13 +55,12 @@ kept_list link link' c last last' xs h same e = record {
 }
 
 -- the list of cown c is changed by f
-pub one_changed : (last last' : List (Option Node)) (held held' : List (Option Linked)) (peak c k : ℕ) (f : List Request → List Request)
-    → IsLinked last held peak
+pub one_changed : (last last' : List (Option Node)) (held held' : Slab Linked) (peak c k : ℕ) (f : List Request → List Request) → IsLinked last held peak
     → c ≡ k → k < length last
     → length last' ≡ length last → ((d : ℕ) → d ≢ c → last_at last' d ≡ last_at last d)
     → ((s d : ℕ) → d ≢ c → stored held' s d ≡ stored held s d)
     → ((s : ℕ) → cowns_of (place_at held' s) ≡ cowns_of (place_at held s))
-    → held_in held' ≡ held_in held
+    → slab_len held' ≡ slab_len held
     → IsList (links held') c (last_of last' c) (f (line last held c)) → IsPlaced held' c (f (line last held c))
     → ((n : Node) → last_at last' c ≡ Some n → IsAt held' n c)
     → IsLinked last' held' peak × (lists_of last' held' ≡ set (lists_of last held) k (f (list (lists_of last held) k)))
@@ -102,13 +102,13 @@ one_changed last last' held held' peak c k f h e below long others same places l
     )
 
 -- no list is changed
-pub none_changed : (last : List (Option Node)) (held held' : List (Option Linked)) (peak peak' : ℕ) → IsLinked last held peak
+pub none_changed : (last : List (Option Node)) (held held' : Slab Linked) (peak peak' : ℕ) → IsLinked last held peak
     → ((s c : ℕ) → c < length last → 0 < times s (slots (line last held c)) → stored held' s c ≡ stored held s c)
     → ((n : Node) (c : ℕ) → c < length last → 0 < times n.slot (slots (line last held c)) → IsAt held n c → IsAt held' n c)
     → ((s x : ℕ) → times x (cowns_of (place_at held' s)) ≤ 1)
     → ((s i : ℕ) → i < length (cowns_of (place_at held' s)) → cown (place_at held' s) i < length last)
     → ((s i : ℕ) → i < length (cowns_of (place_at held' s)) → (s < 2 ^ 16) × (i < 2 ^ 8))
-    → held_in held' ≤ peak'
+    → slab_len held' ≤ peak'
     → IsLinked last held' peak' × (lists_of last held' ≡ lists_of last held)
 unfolding lists_of
 none_changed last held held' peak peak' h same ats distinct range short few =

@@ -2,23 +2,24 @@
 use Rattle.std.proofs.Common.{◌≡◌, ◌≢◌, ℕ, zero, suc, ◌<◌, ◌≤◌, ◌⊎◌, true, false, cond, List, [], ◌∷◌, length, refl, sym, ◌∙◌, ap, subst, inl, inr, arith}
 use Rattle.std.specs.Prelude.{Option, Some, None, slice_get, position, ◌==◌}
 use Rattle.std.specs.Option.{option_map, option_and_then}
+use Rattle.slab.specs.Slab.{Slab, get}
 use Rattle.boc_chain.specs.declared.request.Request.{Request}
 use Rattle.boc_chain.specs.declared.linked.Node.{Node}
 use Rattle.boc_chain.specs.declared.linked.Link.{Link}
 use Rattle.boc_chain.specs.KeptLinks.{Linked}
 use Rattle.boc_chain.specs.Chain.{IsGranted, times, slots, cowns_of, exchanged_of, cown, with_settled, settled_behind}
 use Rattle.boc_chain.specs.Links.{Tie, Spells, next_of}
-use Rattle.boc_chain.specs.Linked.{linked_at, stored_in, stored, seen, links, place_in, place_at, IsAt, NamesWell, IsPlaced, IsSpelled, Holds, Leads, passed}
+use Rattle.boc_chain.specs.Linked.{stored_in, stored, seen, links, place_in, place_at, IsAt, NamesWell, IsPlaced, IsSpelled, Holds, Leads, passed}
 use Rattle.boc_chain.proofs.Lines.{same_or_not}
 use Rattle.boc_chain.proofs.Places.{here_place}
 use Rattle.boc_chain.proofs.Spelled.{has_link, times_same, times_other, times_more, slots_settled}
 
 -- the cowns of its slot stay, so does the place of a node
-pub at_kept : (held held' : List (Option Linked)) (n : Node) (c : ℕ) → cowns_of (place_at held' n.slot) ≡ cowns_of (place_at held n.slot) → IsAt held n c
+pub at_kept : (held held' : Slab Linked) (n : Node) (c : ℕ) → cowns_of (place_at held' n.slot) ≡ cowns_of (place_at held n.slot) → IsAt held n c
     → IsAt held' n c
 at_kept held held' n c e h = ap (λ (cs : List ℕ). position (λ d. d == c) cs) e ∙ h
 
-names_kept : (held held' : List (Option Linked)) (c : ℕ) (l : Link) → ((s : ℕ) → cowns_of (place_at held' s) ≡ cowns_of (place_at held s)) → NamesWell held c l
+names_kept : (held held' : Slab Linked) (c : ℕ) (l : Link) → ((s : ℕ) → cowns_of (place_at held' s) ≡ cowns_of (place_at held s)) → NamesWell held c l
     → NamesWell held' c l
 names_kept held held' c l same w = record {
   before = λ n e. at_kept held held' n c (same n.slot) (w.before n e);
@@ -26,7 +27,7 @@ names_kept held held' c l same w = record {
 }
 
 -- the link of s was written
-pub placed_put : (held held' : List (Option Linked)) (c s : ℕ) (xs ys : List Request) (l : Link) → IsPlaced held c xs
+pub placed_put : (held held' : Slab Linked) (c s : ℕ) (xs ys : List Request) (l : Link) → IsPlaced held c xs
     → ((t : ℕ) → 0 < times t (slots ys) → t ≢ s → 0 < times t (slots xs))
     → ((t : ℕ) → cowns_of (place_at held' t) ≡ cowns_of (place_at held t)) → stored held' s c ≡ Some l → NamesWell held c l
     → ((t : ℕ) → t ≢ s → stored held' t c ≡ stored held t c) → IsPlaced held' c ys
@@ -40,8 +41,7 @@ placed_put held held' c s xs ys l h old same here well others = λ t m there e.
     ]
 
 -- no link was written
-pub placed_kept : (held held' : List (Option Linked)) (c : ℕ) (xs ys : List Request) → IsPlaced held c xs → ((t : ℕ) → 0 < times t (slots ys) → 0 <
-    times t (slots xs))
+pub placed_kept : (held held' : Slab Linked) (c : ℕ) (xs ys : List Request) → IsPlaced held c xs → ((t : ℕ) → 0 < times t (slots ys) → 0 < times t (slots xs))
     → ((t : ℕ) → cowns_of (place_at held' t) ≡ cowns_of (place_at held t)) → ((t : ℕ) → stored held' t c ≡ stored held t c) → IsPlaced held' c ys
 placed_kept held held' c xs ys h old same others = λ t m there e. names_kept held held' c m same (h t m (old t there) (sym (others t) ∙ e))
 
@@ -66,7 +66,7 @@ seen_some None t e = absurd (let f : None ≡ Some t = e in cc)
 seen_some (Some l) t e = (l, refl)
 
 -- each slot of a list has its link
-pub has_stored : (held : List (Option Linked)) (c s : ℕ) (xs : List Request) → IsSpelled (links held) c xs → 0 < times s (slots xs)
+pub has_stored : (held : Slab Linked) (c s : ℕ) (xs : List Request) → IsSpelled (links held) c xs → 0 < times s (slots xs)
     → (l : Link) × (stored held s c ≡ Some l)
 has_stored held c s xs h m = let t = has_link (links held) c None xs s h.spells m in seen_some (stored held s c) t.0 t.1
 
@@ -94,13 +94,12 @@ within_links (Some v) i l e = within v.links i e
     within (x ∷ ls) (suc k) f = let r = within ls k f in omega arith
 
 -- it is among those that were exchanged
-pub exchanged_at : (held : List (Option Linked)) (n : Node) (c : ℕ) (l : Link) → IsAt held n c → stored held n.slot c ≡ Some l
+pub exchanged_at : (held : Slab Linked) (n : Node) (c : ℕ) (l : Link) → IsAt held n c → stored held n.slot c ≡ Some l
     → n.place < exchanged_of (place_at held n.slot)
-exchanged_at held n c l at e = within_links (linked_at held n.slot) n.place l (sym (stored_there (linked_at held n.slot) c n.place at) ∙ e)
+exchanged_at held n c l at e = within_links (get held n.slot) n.place l (sym (stored_there (get held n.slot) c n.place at) ∙ e)
 
 -- request i of a slot with distinct cowns
-pub own_at : (held : List (Option Linked)) (n : Node) → ((d : ℕ) → times d (cowns_of (place_at held n.slot)) ≤ 1)
-    → n.place < length (cowns_of (place_at held n.slot))
+pub own_at : (held : Slab Linked) (n : Node) → ((d : ℕ) → times d (cowns_of (place_at held n.slot)) ≤ 1) → n.place < length (cowns_of (place_at held n.slot))
     → IsAt held n (cown (place_at held n.slot) n.place)
 own_at held n one h = here_place (cowns_of (place_at held n.slot)) n.place one h
 
@@ -142,14 +141,14 @@ named_next link c b (r ∷ xs) s t m h there e is = elim (same_or_not r.slot s) 
 ]
 
 -- a request that is named, and in the list
-pub record Neighbour (held : List (Option Linked)) (c : ℕ) (m : Node) (xs : List Request) : Type 0 where
+pub record Neighbour (held : Slab Linked) (c : ℕ) (m : Node) (xs : List Request) : Type 0 where
   pub at : IsAt held m c
   pub there : 0 < times m.slot (slots xs)
   pub link : Link
   pub got : stored held m.slot c ≡ Some link
   pub exchanged : m.place < exchanged_of (place_at held m.slot)
 
-neighbour : (held : List (Option Linked)) (c : ℕ) (m : Node) (xs : List Request) → IsSpelled (links held) c xs → IsAt held m c → 0 < times m.slot (slots xs)
+neighbour : (held : Slab Linked) (c : ℕ) (m : Node) (xs : List Request) → IsSpelled (links held) c xs → IsAt held m c → 0 < times m.slot (slots xs)
     → Neighbour held c m xs
 neighbour held c m xs h at there = let l = has_stored held c m.slot xs h there in
     record { at = at; there = there; link = l.0; got = l.1; exchanged = exchanged_at held m c l.0 at l.1 }
@@ -158,13 +157,13 @@ granted_there : (s : ℕ) (xs : List Request) → IsGranted s xs → 0 < times s
 granted_there s [] g = absurd g
 granted_there s (r ∷ xs) g = let t = times_same s r.slot (slots xs) g.0 in omega arith
 
-pub holds_it : (held : List (Option Linked)) (c : ℕ) (own : Node) (xs : List Request) → Holds held c own xs → Neighbour held c own xs
+pub holds_it : (held : Slab Linked) (c : ℕ) (own : Node) (xs : List Request) → Holds held c own xs → Neighbour held c own xs
 holds_it held c own xs h = neighbour held c own xs h.inside.spelled h.at h.inside.there
 
-pub leads_it : (held : List (Option Linked)) (c : ℕ) (own : Node) (xs : List Request) → Leads held c own xs → Neighbour held c own xs
+pub leads_it : (held : Slab Linked) (c : ℕ) (own : Node) (xs : List Request) → Leads held c own xs → Neighbour held c own xs
 leads_it held c own xs h = neighbour held c own xs h.front.spelled h.at (granted_there own.slot xs h.front.granted)
 
-pub before_it : (held : List (Option Linked)) (c : ℕ) (own m : Node) (xs : List Request) (l : Link) → Holds held c own xs → stored held own.slot c ≡ Some l
+pub before_it : (held : Slab Linked) (c : ℕ) (own m : Node) (xs : List Request) (l : Link) → Holds held c own xs → stored held own.slot c ≡ Some l
     → l.before ≡ Some m → Neighbour held c m xs
 before_it held c own m xs l h got is =
     neighbour held c m xs h.inside.spelled ((h.placed own.slot l h.inside.there got).before m is)
@@ -174,7 +173,7 @@ before_it held c own m xs l h got is =
       | inr k ↦ k
     ])
 
-pub behind_it : (held : List (Option Linked)) (c : ℕ) (own m : Node) (xs : List Request) (l : Link) → Leads held c own xs → stored held own.slot c ≡ Some l
+pub behind_it : (held : Slab Linked) (c : ℕ) (own m : Node) (xs : List Request) (l : Link) → Leads held c own xs → stored held own.slot c ≡ Some l
     → l.next ≡ Some m → Neighbour held c m xs
 behind_it held c own m xs l h got is =
     let it = leads_it held c own xs h in
@@ -183,7 +182,7 @@ behind_it held c own m xs l h got is =
     (ap (option_map (λ (n : Node). n.slot)) is))
 
 -- settling, with none before it
-pub lone_placed : (held held' : List (Option Linked)) (c : ℕ) (own : Node) (xs : List Request) (q : Option Request) (l : Link) → Holds held c own xs
+pub lone_placed : (held held' : Slab Linked) (c : ℕ) (own : Node) (xs : List Request) (q : Option Request) (l : Link) → Holds held c own xs
     → stored held own.slot c ≡ Some l
     → stored held' own.slot c ≡ Some (record l { settled = true }) → ((t : ℕ) → t ≢ own.slot → stored held' t c ≡ stored held t c)
     → ((t : ℕ) → place_at held' t ≡ place_at held t)
@@ -195,7 +194,7 @@ lone_placed held held' c own xs q l h got here others places =
     (λ t. ap cowns_of (places t)) here (record { before = names.before; next = names.next }) others
 
 -- and with one before it, which is linked to it first
-pub linked_placed : (held mid held' : List (Option Linked)) (c : ℕ) (own b : Node) (xs : List Request) (q : Option Request) (l la : Link) → Holds held c own xs
+pub linked_placed : (held mid held' : Slab Linked) (c : ℕ) (own b : Node) (xs : List Request) (q : Option Request) (l la : Link) → Holds held c own xs
     → stored held own.slot c ≡ Some l → stored held b.slot c ≡ Some la → 0 < times b.slot (slots xs)
     → stored mid b.slot c ≡ Some (record la { next = Some own }) → ((t : ℕ) → t ≢ b.slot → stored mid t c ≡ stored held t c)
     → ((t : ℕ) → place_at mid t ≡ place_at held t)
@@ -215,7 +214,7 @@ linked_placed held mid held' c own b xs q l la h got got_b in_b here others plac
     (let kept = names_kept held mid c l cowns names in record { before = kept.before; next = kept.next }) others'
 
 -- passing on
-pub passed_placed : (held held' : List (Option Linked)) (c : ℕ) (own m : Node) (xs : List Request) (l : Link) → Leads held c own xs → Neighbour held c m xs
+pub passed_placed : (held held' : Slab Linked) (c : ℕ) (own m : Node) (xs : List Request) (l : Link) → Leads held c own xs → Neighbour held c m xs
     → stored held m.slot c ≡ Some l
     → stored held' m.slot c ≡ Some (record l { before = None }) → ((t : ℕ) → t ≢ m.slot → stored held' t c ≡ stored held t c)
     → ((t : ℕ) → place_at held' t ≡ place_at held t)

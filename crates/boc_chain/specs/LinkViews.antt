@@ -1,30 +1,33 @@
 -- How the chains see the linked requests.
-use Rattle.std.specs.Prelude.{◌≡◌, ℕ, ◌+◌, ◌<◌, ◌≤◌, max, List, length, Option, vec_capacity}
+use Rattle.std.specs.Prelude.{◌≡◌, ℕ, ◌+◌, ◌^◌, ◌<◌, ◌≤◌, max, List, length, Option}
+use Rattle.slab.specs.Slab.{slab_len}
+use Rattle.slab.specs.Slab as slab
 use Rattle.boc_chain.specs.declared.request.Request.{Request}
 use Rattle.boc_chain.specs.declared.link_chains.LinkChains.{LinkChains}
 use Rattle.boc_chain.specs.declared.kept_links.TheConstants.{FEW}
 use Rattle.boc_chain.specs.Chain.{Place}
-use Rattle.boc_chain.specs.Linked.{lists_of, place_at, held_in}
+use Rattle.boc_chain.specs.Linked.{lists_of, place_at}
 
 -- the lists that the links spell
 abbrev pub lists : LinkChains → List (List Request)
-lists s = lists_of s.last.items s.slots.items
+lists s = lists_of s.last.items s.slots
 
 -- what was admitted at a slot
 abbrev pub place : LinkChains → ℕ → Option Place
-place s slot = place_at s.slots.items slot
+place s slot = place_at s.slots slot
 
 -- how many slots are held, and the greatest number held at once so far
 abbrev pub held : LinkChains → ℕ
-held s = held_in s.slots.items
+held s = slab_len s.slots
 
 -- the greatest number of slots held at once so far
 abbrev pub peak : LinkChains → ℕ
 peak s = s.peak
 
--- there is room for a behaviour of these cowns at a slot: the table has this slot, or room for it, and its links stand in the slot itself
-pub record HasRoomFor (slot : ℕ) (cowns : List ℕ) (s : LinkChains) : Type 0 where
-  pub spare : slot < vec_capacity s.slots
+-- there is room for a behaviour of these cowns: for a slot more, the next slot has 16 bits, and its links stand in the slot itself
+pub record HasRoomFor (cowns : List ℕ) (s : LinkChains) : Type 0 where
+  pub spare : slab.HasRoomFor s.slots 1
+  pub low : s.slots.vacant_key < 2 ^ 16
   pub inside : length cowns ≤ FEW
 
 -- one slot more is held, which may be a new peak

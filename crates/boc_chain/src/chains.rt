@@ -10,7 +10,7 @@ use std::alloc::AllocError;
 /// Request i is for the cown at place i, from 0. It is in its cown's list from its exchange until it leaves.
 /// Only `admit` takes memory.
 pub trait Chains {
-    ghost use Rattle.std.specs.Prelude.{◌≡◌, ◌≢◌, ◌↔◌, ℕ, ◌<◌, ◌≤◌, ◌^◌, false, List, length, Option, Some, None, OnOk, OnErr, IsSome};
+    ghost use Rattle.std.specs.Prelude.{◌≡◌, ◌≢◌, ◌↔◌, ℕ, ◌<◌, ◌≤◌, ◌^◌, false, List, length, Option, Some, None, IfOk, OnErr, IsSome};
     ghost use Rattle.boc_chain.specs.declared.request.Request.{Request};
     ghost use Rattle.boc_chain.specs.declared.request.Settled.TheVariants.{Blocked as SettleBlocked};
     ghost use Rattle.boc_chain.specs.declared.request.Released.TheVariants.{Blocked as LeaveBlocked};
@@ -23,15 +23,15 @@ pub trait Chains {
     /// What was admitted at a slot.
     ghost place: { Self → ℕ → Option Place };
 
-    /// Makes room at a vacant slot for the requests of one behaviour. `AllocError` says that memory was refused; then nothing has
-    /// changed.
-    fn admit(&mut self, slot: Slot, cowns: Cowns) -> Result<(), AllocError>
-        requires vacant { place self.old slot.index ≡ None }
-        requires low { slot.index < 2 ^ 16 }
+    /// Takes memory for the requests of one behaviour, and answers their slot, which was vacant. `AllocError` says that memory was
+    /// refused, or that no slot of 16 bits is left; then nothing has changed.
+    fn admit(&mut self, cowns: Cowns) -> Result<Slot, AllocError>
         requires distinct { (c : ℕ) → times c cowns.items ≤ 1 }
         requires in_range { (c : ℕ) → 0 < times c cowns.items → c < length (lists self.old) }
-        ensures here { OnOk result (place self.new slot.index ≡ Some (record { cowns = cowns.items; exchanged = 0 })) }
-        ensures other_places { OnOk result ((s : ℕ) → s ≢ slot.index → place self.new s ≡ place self.old s) }
+        ensures vacant { IfOk result (λ slot. place self.old slot.index ≡ None) }
+        ensures low { IfOk result (λ slot. slot.index < 2 ^ 16) }
+        ensures here { IfOk result (λ slot. place self.new slot.index ≡ Some (record { cowns = cowns.items; exchanged = 0 })) }
+        ensures other_places { IfOk result (λ slot. (s : ℕ) → s ≢ slot.index → place self.new s ≡ place self.old s) }
         ensures err { OnErr result ((s : ℕ) → place self.new s ≡ place self.old s) }
         ensures lists { lists self.new ≡ lists self.old };
 

@@ -1,6 +1,6 @@
 //! What was admitted at the slots of the plain lists.
 
-ghost use Rattle.std.specs.Prelude.{◌≡◌, ℕ, ◌≢◌, ◌+◌, ◌<◌, ◌≤◌, ◌^◌, List, length, slice_set, slice_get, drop, Some, None, IfSome, IsSome, unwrap_or};
+ghost use Rattle.std.specs.Prelude.{◌≡◌, ℕ, ◌≢◌, ◌+◌, ◌<◌, ◌≤◌, ◌^◌, List, length, slice_set, slice_get, drop, Some, None, IfSome, IsSome, IsTrue, ◌↔◌, unwrap_or};
 ghost use Rattle.boc_chain.specs.Chain.{cowns_of, exchanged_of, cown, one_more, times};
 ghost use Rattle.boc_chain.specs.Kept.{place_at, place_of, awaits};
 ghost use Rattle.std.specs.List.{sum_by};
@@ -82,6 +82,13 @@ pub fn count_awaited(places: &[Option<Held>], c: CownNo) -> usize
         count += awaited_by(held, c);
     }
     count
+}
+
+/// Whether nothing is held at a slot.
+pub fn is_vacant(places: &[Option<Held>], slot: usize) -> bool
+    ensures { IsTrue result ↔ (place_at places.now slot ≡ None) }
+{
+    !matches!(places.get(slot), Some(Some(_)))
 }
 
 /// Holds the cowns at a vacant slot.

@@ -2,8 +2,9 @@
 
 ghost use Rattle.std.specs.Prelude.{◌≡◌, ℕ, ◌↔◌, IsTrue, Some, None, IfOk, replicate, length, ◌≤◌};
 ghost use Rattle.boc_program.specs.declared.limits.TheConstants.{MOST_COWNS};
+ghost use Rattle.slab.specs.Slab.{slab_len};
 ghost use Rattle.std.specs.Option.{option_map};
-ghost use Rattle.boc_chain.specs.Linked.{IsLinked, held_in, slot_at};
+ghost use Rattle.boc_chain.specs.Linked.{IsLinked, slot_at};
 ghost use Rattle.boc_chain.specs.Props.{Spells-prop};
 ghost use Rattle.std.proofs.Props.{props};
 
@@ -13,22 +14,20 @@ use crate::linked::{
     Change, Link, Node, can_settle_at, change_link, cown_at, next_at, pass_at, push_link, settle_at,
 };
 use crate::request::{Released, Settled, Slot};
-use crate::table::reach;
 use boc_program::held::HeldCowns;
 use boc_program::limits::MOST_HELD;
 use boc_program::short::{CownNo, Cowns};
+use slab::Slab;
 use std::alloc::{AllocError, Global};
 
 /// For each cown its last request; each request knows its neighbours.
 #[derive(Drop)]
 pub struct LinkChains {
     last: Vec<Option<Node>>,
-    slots: Vec<Option<Linked>>,
-    held: usize,
+    slots: Slab<Linked>,
     peak: usize,
     ghost few: { length last.items ≤ MOST_COWNS },
-    ghost counted: { held_in slots.items ≡ held },
-    ghost linked: { IsLinked last.items slots.items peak } by { Prim.hlevel (props, Spells-prop) },
+    ghost linked: { IsLinked last.items slots peak } by { Prim.hlevel (props, Spells-prop) },
 }
 
 // Whether it is at this slot.
@@ -75,8 +74,7 @@ impl LinkChains {
         let last = no_last(alloc, cowns)?;
         Ok(LinkChains {
             last,
-            slots: Vec::new(alloc),
-            held: 0,
+            slots: Slab::new(alloc),
             peak: 0,
         })
     }
@@ -87,7 +85,7 @@ impl LinkChains {
         ensures last { (c : ℕ) → c < length (link_lists self.now) → last_of self.now.last.items c
             ≡ end_of None (list (link_lists self.now) c) }
         ensures links { (c : ℕ) → c < length (link_lists self.now)
-            → Spells (links self.now.slots.items) c None (list (link_lists self.now) c) }
+            → Spells (links self.now.slots) c None (list (link_lists self.now) c) }
         ensures held { (c s : ℕ) → c < length (link_lists self.now) → 0 < times s (slots_in (list (link_lists self.now) c))
             → IsSome (link_place self.now s) }
     {}
@@ -112,27 +110,30 @@ impl Chains for LinkChains {
 
     ghost place = { link_place };
 
-    fn admit(&mut self, slot: Slot, cowns: Cowns) -> Result<(), AllocError>
-        requires vacant { link_place self.old slot.index ≡ None }
-        requires low { slot.index < 2 ^ 16 }
+    fn admit(&mut self, cowns: Cowns) -> Result<Slot, AllocError>
         requires distinct { (c : ℕ) → times c cowns.items ≤ 1 }
         requires in_range { (c : ℕ) → 0 < times c cowns.items → c < length (link_lists self.old) }
-        ensures here { OnOk result (link_place self.new slot.index ≡ Some (record { cowns = cowns.items; exchanged = 0 })) }
-        ensures other_places { OnOk result ((s : ℕ) → s ≢ slot.index → link_place self.new s ≡ link_place self.old s) }
+        ensures vacant { IfOk result (λ slot. link_place self.old slot.index ≡ None) }
+        ensures low { IfOk result (λ slot. slot.index < 2 ^ 16) }
+        ensures here { IfOk result (λ slot. link_place self.new slot.index ≡ Some (record { cowns = cowns.items; exchanged = 0 })) }
+        ensures other_places { IfOk result (λ slot. (s : ℕ) → s ≢ slot.index → link_place self.new s ≡ link_place self.old s) }
         ensures err { OnErr result ((s : ℕ) → link_place self.new s ≡ link_place self.old s) }
         ensures lists { link_lists self.new ≡ link_lists self.old }
         ensures one_more { OnOk result (HoldsOneMore self.old self.new) }
         ensures as_many { OnErr result (HoldsAsMany self.old self.new) }
-        ensures full { OnErr result (HasRoomFor slot.index cowns.items self.old → ⊥) }
+        ensures full { OnErr result (HasRoomFor cowns.items self.old → ⊥) }
     {
         let count = cowns.len();
         prove!(count <= MOST_HELD);
+        // Links name slots in 16 bits, which is enough for as many behaviours as a run may have.
+        if self.slots.vacant_key() > u16::MAX as usize {
+            return Err(AllocError);
+        }
         let linked = Linked::new(*self.last.allocator(), HeldCowns::of(&cowns))?;
-        reach(&mut self.slots, slot.index)?;
-        self.slots[slot.index] = Some(linked);
-        self.held += 1;
-        self.peak = self.peak.max(self.held);
-        Ok(())
+        self.slots.reserve(1)?;
+        let index = self.slots.insert_reserved(linked);
+        self.peak = self.peak.max(self.slots.len());
+        Ok(Slot { index })
     }
 
     fn swap(&mut self, slot: Slot, i: usize) -> Option<Slot>
@@ -256,7 +257,6 @@ impl Chains for LinkChains {
         ensures lists { link_lists self.new ≡ link_lists self.old }
         ensures one_less { HoldsOneLess self.old self.new }
     {
-        self.slots[slot.index] = None;
-        self.held -= 1;
+        self.slots.remove(slot.index);
     }
 }

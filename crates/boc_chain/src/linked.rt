@@ -1,10 +1,9 @@
 //! The requests of one behaviour, each linked to its neighbours.
 
-ghost use Rattle.std.specs.Prelude.{◌≡◌, ◌≢◌, ◌==◌, ◌↔◌, ℕ, ◌<◌, ◌≤◌, List, length, position, Some, IsSome, false, drop};
+ghost use Rattle.std.specs.Prelude.{◌≡◌, ◌≢◌, ◌==◌, ◌↔◌, ℕ, ◌<◌, ◌≤◌, List, length, position, Some, false, drop};
 ghost use Rattle.std.specs.Option.{option_map};
-ghost use Rattle.std.specs.Borrow.{sem};
-ghost use Rattle.boc_chain.specs.Lending.{LendsLinked};
-ghost use Rattle.boc_chain.specs.Linked.{linked_at, held_in, stored_in, stored, links, place_in, place_at, IsAt, IsSpelled, IsPlaced, Holds, Leads, passed};
+ghost use Rattle.slab.specs.Slab.{slab_len};
+ghost use Rattle.boc_chain.specs.Linked.{stored_in, stored, links, place_in, place_at, IsAt, IsSpelled, IsPlaced, Holds, Leads, passed};
 ghost use Rattle.boc_chain.specs.Links.{next_of};
 ghost use Rattle.boc_chain.specs.ShortLinks.{changed};
 ghost use Rattle.boc_chain.specs.Chain.{cown, cowns_of, exchanged_of, one_more, times, settle_answer, after_settle};
@@ -14,6 +13,7 @@ ghost use Rattle.boc_chain.specs.declared.request.Settled.TheVariants.{Blocked a
 use crate::kept_links::Linked;
 use crate::request::Settled;
 use boc_program::short::CownNo;
+use slab::Slab;
 
 /// Names a request: the slot that it is at, and its place among those of the slot. It is kept small, since there are two for
 /// each request.
@@ -86,36 +86,17 @@ impl Linked {
     }
 }
 
-// What is kept at a slot, which is held.
-#[inline(always)]
-fn linked_ref(slots: &Vec<Option<Linked>>, slot: usize) -> &Linked
-    requires { IsSome (linked_at slots.now.items slot) }
-    ensures { linked_at slots.now.items slot ≡ Some result.now }
-{
-    slots[slot].as_ref().unwrap()
-}
-
-// The same for writing.
-#[inline(always)]
-fn linked_mut(slots: &mut Vec<Option<Linked>>, slot: usize) -> &mut Linked
-    requires { IsSome (linked_at slots.old.items slot) }
-    ensures* writes_back { sem 𝓛 (LendsLinked slots.entry slot result) }
-    ensures value { linked_at slots.old.items slot ≡ Some result.now }
-{
-    slots[slot].as_mut().unwrap()
-}
-
 /// Settles a request.
-pub fn settle_at(slots: &mut Vec<Option<Linked>>, node: Node) -> Settled
-    requires { (c : ℕ) × ((xs : List Request) × Holds slots.old.items c node xs) }
-    ensures answer { (c : ℕ) (xs : List Request) → Holds slots.old.items c node xs → result ≡ settle_answer node.slot xs }
-    ensures spelled { (c : ℕ) (xs : List Request) → Holds slots.old.items c node xs
-        → IsSpelled (links slots.new.items) c (after_settle node.slot xs) }
-    ensures placed { (c : ℕ) (xs : List Request) → Holds slots.old.items c node xs → IsPlaced slots.new.items c (after_settle node.slot xs) }
-    ensures other_cowns { (c s d : ℕ) (xs : List Request) → Holds slots.old.items c node xs → d ≢ c → stored slots.new.items s d
-        ≡ stored slots.old.items s d }
-    ensures places { (s : ℕ) → place_at slots.new.items s ≡ place_at slots.old.items s }
-    ensures len { held_in slots.new.items ≡ held_in slots.old.items }
+pub fn settle_at(slots: &mut Slab<Linked>, node: Node) -> Settled
+    requires { (c : ℕ) × ((xs : List Request) × Holds slots.old c node xs) }
+    ensures answer { (c : ℕ) (xs : List Request) → Holds slots.old c node xs → result ≡ settle_answer node.slot xs }
+    ensures spelled { (c : ℕ) (xs : List Request) → Holds slots.old c node xs
+        → IsSpelled (links slots.new) c (after_settle node.slot xs) }
+    ensures placed { (c : ℕ) (xs : List Request) → Holds slots.old c node xs → IsPlaced slots.new c (after_settle node.slot xs) }
+    ensures other_cowns { (c s d : ℕ) (xs : List Request) → Holds slots.old c node xs → d ≢ c → stored slots.new s d
+        ≡ stored slots.old s d }
+    ensures places { (s : ℕ) → place_at slots.new s ≡ place_at slots.old s }
+    ensures len { slab_len slots.new ≡ slab_len slots.old }
 {
     let link = link_at(slots, node);
     match link.before {
@@ -137,9 +118,9 @@ pub fn settle_at(slots: &mut Vec<Option<Linked>>, node: Node) -> Settled
 }
 
 /// Whether a request can be settled.
-pub fn can_settle_at(slots: &Vec<Option<Linked>>, node: Node) -> bool
-    requires { (c : ℕ) × ((xs : List Request) × Holds slots.now.items c node xs) }
-    ensures { (c : ℕ) (xs : List Request) → Holds slots.now.items c node xs
+pub fn can_settle_at(slots: &Slab<Linked>, node: Node) -> bool
+    requires { (c : ℕ) × ((xs : List Request) × Holds slots.now c node xs) }
+    ensures { (c : ℕ) (xs : List Request) → Holds slots.now c node xs
         → (result ≡ false) ↔ (settle_answer node.slot xs ≡ SettleBlocked) }
 {
     match link_at(slots, node).before {
@@ -156,23 +137,23 @@ fn slot_of(node: Option<Node>) -> Option<usize>
 }
 
 /// The slot of the request that follows one at the front, where it has settled.
-pub fn next_at(slots: &Vec<Option<Linked>>, node: Node) -> Option<usize>
-    requires { (c : ℕ) × ((xs : List Request) × Leads slots.now.items c node xs) }
-    ensures { (c : ℕ) (xs : List Request) → Leads slots.now.items c node xs → result ≡ next_of (drop 1 xs) }
+pub fn next_at(slots: &Slab<Linked>, node: Node) -> Option<usize>
+    requires { (c : ℕ) × ((xs : List Request) × Leads slots.now c node xs) }
+    ensures { (c : ℕ) (xs : List Request) → Leads slots.now c node xs → result ≡ next_of (drop 1 xs) }
 {
     slot_of(link_at(slots, node).next)
 }
 
 /// Takes a request off the front where the next has settled, and answers the next.
-pub fn pass_at(slots: &mut Vec<Option<Linked>>, node: Node) -> Option<usize>
-    requires { (c : ℕ) × ((xs : List Request) × Leads slots.old.items c node xs) }
-    ensures answer { (c : ℕ) (xs : List Request) → Leads slots.old.items c node xs → result ≡ next_of (drop 1 xs) }
-    ensures spelled { (c : ℕ) (xs : List Request) → Leads slots.old.items c node xs → IsSpelled (links slots.new.items) c (passed xs) }
-    ensures placed { (c : ℕ) (xs : List Request) → Leads slots.old.items c node xs → IsPlaced slots.new.items c (passed xs) }
-    ensures other_cowns { (c s d : ℕ) (xs : List Request) → Leads slots.old.items c node xs → d ≢ c → stored slots.new.items s d
-        ≡ stored slots.old.items s d }
-    ensures places { (s : ℕ) → place_at slots.new.items s ≡ place_at slots.old.items s }
-    ensures len { held_in slots.new.items ≡ held_in slots.old.items }
+pub fn pass_at(slots: &mut Slab<Linked>, node: Node) -> Option<usize>
+    requires { (c : ℕ) × ((xs : List Request) × Leads slots.old c node xs) }
+    ensures answer { (c : ℕ) (xs : List Request) → Leads slots.old c node xs → result ≡ next_of (drop 1 xs) }
+    ensures spelled { (c : ℕ) (xs : List Request) → Leads slots.old c node xs → IsSpelled (links slots.new) c (passed xs) }
+    ensures placed { (c : ℕ) (xs : List Request) → Leads slots.old c node xs → IsPlaced slots.new c (passed xs) }
+    ensures other_cowns { (c s d : ℕ) (xs : List Request) → Leads slots.old c node xs → d ≢ c → stored slots.new s d
+        ≡ stored slots.old s d }
+    ensures places { (s : ℕ) → place_at slots.new s ≡ place_at slots.old s }
+    ensures len { slab_len slots.new ≡ slab_len slots.old }
 {
     match link_at(slots, node).next {
         Some(next) => {
@@ -184,47 +165,46 @@ pub fn pass_at(slots: &mut Vec<Option<Linked>>, node: Node) -> Option<usize>
 }
 
 /// Adds the link of the next request to be exchanged.
-pub fn push_link(slots: &mut Vec<Option<Linked>>, slot: usize, link: Link)
-    requires { exchanged_of (place_at slots.old.items slot) < length (cowns_of (place_at slots.old.items slot)) }
-    ensures here { let place = place_at slots.old.items slot in
-        ((d : ℕ) → times d (cowns_of place) ≤ 1) → stored slots.new.items slot (cown place (exchanged_of place)) ≡ Some link }
-    ensures other_slots { (s d : ℕ) → s ≢ slot → stored slots.new.items s d ≡ stored slots.old.items s d }
-    ensures other_cowns { let place = place_at slots.old.items slot in
-        (s d : ℕ) → d ≢ cown place (exchanged_of place) → stored slots.new.items s d ≡ stored slots.old.items s d }
-    ensures place { place_at slots.new.items slot ≡ one_more (place_at slots.old.items slot) }
-    ensures other_places { (s : ℕ) → s ≢ slot → place_at slots.new.items s ≡ place_at slots.old.items s }
-    ensures len { held_in slots.new.items ≡ held_in slots.old.items }
+pub fn push_link(slots: &mut Slab<Linked>, slot: usize, link: Link)
+    requires { exchanged_of (place_at slots.old slot) < length (cowns_of (place_at slots.old slot)) }
+    ensures here { let place = place_at slots.old slot in
+        ((d : ℕ) → times d (cowns_of place) ≤ 1) → stored slots.new slot (cown place (exchanged_of place)) ≡ Some link }
+    ensures other_slots { (s d : ℕ) → s ≢ slot → stored slots.new s d ≡ stored slots.old s d }
+    ensures other_cowns { let place = place_at slots.old slot in
+        (s d : ℕ) → d ≢ cown place (exchanged_of place) → stored slots.new s d ≡ stored slots.old s d }
+    ensures place { place_at slots.new slot ≡ one_more (place_at slots.old slot) }
+    ensures other_places { (s : ℕ) → s ≢ slot → place_at slots.new s ≡ place_at slots.old s }
+    ensures len { slab_len slots.new ≡ slab_len slots.old }
 {
-    linked_mut(slots, slot).push(link);
+    slots[slot].push(link);
 }
 
 /// The cown of request i at a slot.
-pub fn cown_at(slots: &Vec<Option<Linked>>, slot: usize, i: usize) -> CownNo
-    requires { i < length (cowns_of (place_at slots.now.items slot)) }
-    ensures { result ≡ cown (place_at slots.now.items slot) i }
+pub fn cown_at(slots: &Slab<Linked>, slot: usize, i: usize) -> CownNo
+    requires { i < length (cowns_of (place_at slots.now slot)) }
+    ensures { result ≡ cown (place_at slots.now slot) i }
 {
-    CownNo::from(linked_ref(slots, slot).cowns()[i])
+    CownNo::from(slots[slot].cowns()[i])
 }
 
 /// The link of a request. It is unpacked where it is called, so that only those parts are which the caller looks at.
 #[inline(always)]
-pub fn link_at(slots: &Vec<Option<Linked>>, node: Node) -> Link
-    requires { node.place < exchanged_of (place_at slots.now.items node.slot) }
-    ensures { (c : ℕ) → IsAt slots.now.items node c → stored slots.now.items node.slot c ≡ Some result }
+pub fn link_at(slots: &Slab<Linked>, node: Node) -> Link
+    requires { node.place < exchanged_of (place_at slots.now node.slot) }
+    ensures { (c : ℕ) → IsAt slots.now node c → stored slots.now node.slot c ≡ Some result }
 {
-    linked_ref(slots, node.slot as usize).link(node.place as usize)
+    slots[node.slot as usize].link(node.place as usize)
 }
 
 /// Changes the link of a request.
 #[inline(always)]
-pub fn change_link(slots: &mut Vec<Option<Linked>>, node: Node, change: Change)
-    requires { node.place < exchanged_of (place_at slots.old.items node.slot) }
-    ensures here { (c : ℕ) (l : Link) → IsAt slots.old.items node c → stored slots.old.items node.slot c ≡ Some l
-        → stored slots.new.items node.slot c ≡ Some (changed change l) }
-    ensures other_slots { (s d : ℕ) → s ≢ node.slot → stored slots.new.items s d ≡ stored slots.old.items s d }
-    ensures other_cowns { (c s d : ℕ) → IsAt slots.old.items node c → d ≢ c → stored slots.new.items s d ≡ stored slots.old.items s d }
-    ensures places { (s : ℕ) → place_at slots.new.items s ≡ place_at slots.old.items s }
-    ensures len { held_in slots.new.items ≡ held_in slots.old.items }
+pub fn change_link(slots: &mut Slab<Linked>, node: Node, change: Change)
+    requires { node.place < exchanged_of (place_at slots.old node.slot) }
+    ensures here { (c : ℕ) (l : Link) → IsAt slots.old node c → stored slots.old node.slot c ≡ Some l → stored slots.new node.slot c ≡ Some (changed change l) }
+    ensures other_slots { (s d : ℕ) → s ≢ node.slot → stored slots.new s d ≡ stored slots.old s d }
+    ensures other_cowns { (c s d : ℕ) → IsAt slots.old node c → d ≢ c → stored slots.new s d ≡ stored slots.old s d }
+    ensures places { (s : ℕ) → place_at slots.new s ≡ place_at slots.old s }
+    ensures len { slab_len slots.new ≡ slab_len slots.old }
 {
-    linked_mut(slots, node.slot as usize).alter(node.place as usize, change);
+    slots[node.slot as usize].alter(node.place as usize, change);
 }

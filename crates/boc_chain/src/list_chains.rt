@@ -1,17 +1,18 @@
 //! Request chains kept as plain lists.
 
-ghost use Rattle.std.specs.Prelude.{◌≡◌, ℕ, ◌+◌, ◌<◌, ◌≤◌, All, [], replicate, length, map, slice_get, Some, None, IfOk, OnErr, OnOk};
+ghost use Rattle.std.specs.Prelude.{◌≡◌, ℕ, ◌+◌, ◌<◌, ◌≤◌, ◌^◌, All, [], replicate, length, map, slice_get, Some, None, IfOk, OnErr, OnOk};
 ghost use Rattle.std.specs.List.{sum_by};
 ghost use Rattle.std.specs.Vec.{vec_len, vec_capacity};
 ghost use Rattle.boc_chain.specs.Chain.{times};
-ghost use Rattle.boc_chain.specs.Kept.{IsKept, awaits, HasRoom};
+ghost use Rattle.boc_chain.specs.Kept.{IsKept, awaits, HasRoom, place_at};
 
 use crate::chains::Chains;
-use crate::held::{Held, count_awaited, count_exchange, cown_at, hold};
+use crate::held::{Held, count_awaited, count_exchange, cown_at, hold, is_vacant};
 use crate::request::{Released, Request, Settled, Slot};
 use crate::requests::{can_leave_in, can_settle_in, end_of, flag_in, leave_in, settle_in};
 use crate::table::reach;
 use boc_program::short::{CownNo, Cowns};
+use slab::Slab;
 use std::alloc::{AllocError, Global};
 
 /// For each cown a plain list of requests.
@@ -19,6 +20,8 @@ use std::alloc::{AllocError, Global};
 pub struct ListChains {
     lines: Vec<Vec<Request>>,
     places: Vec<Option<Held>>,
+    // Gives the slots in the order in which any slab does that is filled and emptied by the same calls.
+    keys: Slab<()>,
     ghost kept: { IsKept lines.items places.items },
 }
 
@@ -43,6 +46,18 @@ fn make_room(
     Ok(())
 }
 
+// The key that comes next, of 16 bits, where nothing is held at it.
+fn next_vacant(keys: &Slab<()>, places: &[Option<Held>]) -> Result<usize, AllocError>
+    ensures vacant { IfOk result (λ index. place_at places.now index ≡ None) }
+    ensures low { IfOk result (λ index. index < 2 ^ 16) }
+{
+    let index = keys.vacant_key();
+    if index > u16::MAX as usize || !is_vacant(places, index) {
+        return Err(AllocError);
+    }
+    Ok(index)
+}
+
 impl ListChains {
     ghost use Rattle.boc_chain.specs.Views.{lists as plain_lists, place as plain_place};
 
@@ -58,6 +73,7 @@ impl ListChains {
         Ok(ListChains {
             lines,
             places: Vec::new(alloc),
+            keys: Slab::new(alloc),
         })
     }
 }
@@ -69,11 +85,13 @@ impl Chains for ListChains {
 
     ghost place = { plain_place };
 
-    fn admit(&mut self, slot: Slot, cowns: Cowns) -> Result<(), AllocError> {
+    fn admit(&mut self, cowns: Cowns) -> Result<Slot, AllocError> {
+        let index = next_vacant(&self.keys, &self.places)?;
         make_room(&mut self.lines, &self.places, &cowns)?;
-        reach(&mut self.places, slot.index)?;
-        hold(&mut self.places, slot.index, cowns);
-        Ok(())
+        reach(&mut self.places, index)?;
+        self.keys.insert(())?;
+        hold(&mut self.places, index, cowns);
+        Ok(Slot { index })
     }
 
     fn swap(&mut self, slot: Slot, i: usize) -> Option<Slot> {
@@ -116,5 +134,6 @@ impl Chains for ListChains {
 
     fn dismiss(&mut self, slot: Slot) {
         self.places[slot.index] = None;
+        self.keys.try_remove(slot.index);
     }
 }

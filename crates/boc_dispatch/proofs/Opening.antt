@@ -1,6 +1,6 @@
 -- A child is opened, as the code does it: with all memory that it needs, or not at all.
-use Rattle.std.proofs.Common.{◌≡◌, ◌≢◌, ℕ, ◌+◌, ◌^◌, ◌<◌, ◌≤◌, inl, inr, List, length, refl, sym, ◌∙◌, ap, subst, arith}
-use Rattle.std.specs.Prelude.{Option, Some, None}
+use Rattle.std.proofs.Common.{◌≡◌, ◌≢◌, ℕ, zero, suc, ◌+◌, ◌^◌, ◌<◌, ◌≤◌, inl, inr, List, [], ◌∷◌, length, refl, sym, ◌∙◌, ap, subst, arith}
+use Rattle.std.specs.Prelude.{slice_index_or, Option, Some, None}
 use Rattle.std.specs.Option.{option_map}
 use Rattle.std.proofs.lemmas.Bool.{cases_lt}
 use Rattle.boc_program.specs.declared.limits.TheConstants.{MOST_ROWS}
@@ -9,7 +9,9 @@ use Rattle.boc_runs.specs.declared.stage.Stage.TheVariants.{Recorded}
 use Rattle.boc_runs.specs.machine.Steps.{State, unrecorded, Opens}
 use Rattle.boc_runs.specs.machine.Sound.{IsSound}
 use Rattle.boc_rules.specs.Log.{Log}
-use Rattle.boc_chain.specs.Chain.{Place}
+use Rattle.boc_chain.specs.declared.request.Request.{Request}
+use Rattle.boc_chain.specs.Chain.{Place, slots, times}
+use Rattle.boc_chain.proofs.Spelled.{times_other}
 use Rattle.boc_dispatch.specs.declared.live.Live.{Live}
 use Rattle.boc_dispatch.specs.Inside.{live_at, place_of, Parts, IsKept, HasRooms, state, underway, IsAtStage, HasInHand, IsNew, AreCounted}
 use Rattle.boc_dispatch.specs.Moves.{MayPut, Puts}
@@ -17,11 +19,36 @@ use Rattle.boc_dispatch.specs.Places.{with_child}
 use Rattle.boc_dispatch.proofs.Fits.{steps_fit}
 use Rattle.boc_dispatch.proofs.ChildOpened.{E, apart, p2_is, e_own, e_slot, opened_rooms, may_put, asking_kept, recorded_kept, end_rooms, opens_asking}
 use Rattle.boc_dispatch.proofs.ChildOpened.{opens_recorded}
+use Rattle.boc_dispatch.proofs.Standing.{AreLive, lists_live}
 use Rattle.boc_dispatch.proofs.Tables.{SamePlaces, behaviours_length, behaviours_placed, queues_placed, rows_placed, taken_placed}
 
 -- as many behaviours are without a home as were opened but not recorded
 pub homes_left : (d : Parts) → IsKept d → length d.homes + unrecorded (state d) ≡ d.opened
 homes_left d k = let a = k.homes_are in let b = k.sound.counted in let c = behaviours_length d.live d.opened in omega (arith, a, b, c)
+
+-- no request is of a slot at which nobody is
+none_there : (live : List (Option Live)) (q : List Request) (own : ℕ) → AreLive live q → live_at live own ≡ None → times own (slots q) ≡ 0
+none_there live [] own all vacant = refl
+none_there live (r ∷ q) own all vacant =
+    let h = all zero r refl in
+    let other : r.slot ≢ own = (λ e. let f : Some h.0 ≡ None = sym h.1 ∙ ap (live_at live) e ∙ vacant in absurd cc) in
+    let rest = none_there live q own (λ j. all (suc j)) vacant in
+    omega (arith, times_other own r.slot (slots q) other, rest)
+
+vacant_empty : (d : Parts) → IsKept d → (own : ℕ) → live_at d.live own ≡ None → (c : ℕ) → times own (slots (slice_index_or d.lists c [])) ≡ 0
+vacant_empty d k own vacant c = none_there d.live (slice_index_or d.lists c []) own (lists_live d k c) vacant
+
+-- nobody is where nothing was admitted
+vacant_of : (d : Parts) → IsKept d → (own : ℕ) → d.place own ≡ None → live_at d.live own ≡ None
+vacant_of d k own none =
+    elim (live_at d.live own) as (λ o. d.place own ≡ option_map place_of o → o ≡ None) [
+      | None ↦ λ e. refl
+      | Some l ↦ λ e. absurd (let f : None ≡ Some (place_of l) = sym none ∙ e in cc)
+    ] (k.chained.places own)
+
+-- no request is of a slot where nothing was admitted
+pub unused_places : (d : Parts) → IsKept d → (c s : ℕ) → d.place s ≡ None → times s (slots (slice_index_or d.lists c [])) ≡ 0
+unused_places d k c s none = vacant_empty d k s (vacant_of d k s none) c
 
 -- ---- with more places, and room in the log for one row more
 

@@ -1,6 +1,6 @@
 //! What the dispatcher has in hand, and how each step changes it.
 
-ghost use Rattle.std.specs.Prelude.{◌≡◌, ◌+◌, ◌^◌, ◌<◌, ◌≤◌, ◌↔◌, ℕ, suc, [], None, Some, IfOk, IsTrue, IsSome, MatchOption, OnOk, false, true, length, max};
+ghost use Rattle.std.specs.Prelude.{◌≡◌, ◌≢◌, ◌+◌, ◌^◌, ◌<◌, ◌≤◌, ◌↔◌, ℕ, suc, [], None, Some, IfOk, IsTrue, IsSome, MatchOption, OnErr, OnOk, false, true, length, max};
 ghost use Rattle.std.specs.Prelude.{replicate, vec_capacity};
 ghost use Rattle.slab.specs.Slab.{HasRoomFor};
 ghost use Rattle.std.specs.VecDeque.{deque_capacity};
@@ -27,7 +27,7 @@ use std::collections::VecDeque;
 pub struct Roster<'a, C: Chains + Drop> {
     pub program: &'a CompiledProgram<'a>,
     pub chains: C,
-    /// The behaviours that aren't gone, each at the slot of its requests, which this slab gives.
+    /// The behaviours that aren't gone, each at the slot of its requests: its own slab and that of the requests give the same slots.
     pub live: Slab<Live>,
     /// The slot that the behaviour of each row has, or had.
     pub homes: Vec<u32>,
@@ -76,6 +76,27 @@ fn next_slot(live: &mut Slab<Live>, ready: &mut VecDeque<u32>) -> Result<usize, 
         return Err(AllocError);
     }
     Ok(slot)
+}
+
+ghost use Rattle.boc_chain.specs.Chain.{list, slots, times};
+
+// Admits the cowns of a behaviour at the slot that its own slab gives next. The slab of the chains gives the same one, since both are filled and emptied by
+// the same calls. Their contracts don't say so: with another one, this ends as if memory were refused.
+fn admit_at<C: Chains>(chains: &mut C, slot: usize, cowns: Cowns) -> Result<(), AllocError>
+    requires unused { (c s : ℕ) → C.place chains.old s ≡ None → times s (slots (list (C.lists chains.old) c)) ≡ 0 }
+    requires distinct { (c : ℕ) → times c cowns.items ≤ 1 }
+    requires in_range { (c : ℕ) → 0 < times c cowns.items → c < length (C.lists chains.old) }
+    ensures here { OnOk result (C.place chains.new slot ≡ Some (record { cowns = cowns.items; exchanged = 0 })) }
+    ensures other_places { OnOk result ((s : ℕ) → s ≢ slot → C.place chains.new s ≡ C.place chains.old s) }
+    ensures err { OnErr result ((s : ℕ) → C.place chains.new s ≡ C.place chains.old s) }
+    ensures lists { C.lists chains.new ≡ C.lists chains.old }
+{
+    let admitted = chains.admit(cowns)?;
+    if admitted.index != slot {
+        chains.dismiss(admitted);
+        return Err(AllocError);
+    }
+    Ok(())
 }
 
 ghost use Rattle.boc_runs.specs.declared.event.Event.TheVariants.{End as EndEvent};
@@ -131,7 +152,7 @@ impl<'a, C: Chains + Drop> Roster<'a, C> {
         let mut live = Slab::new(alloc);
         let mut ready = VecDeque::new(alloc);
         let slot = next_slot(&mut live, &mut ready)?;
-        chains.admit(Slot { index: slot }, Cowns::new())?;
+        admit_at(&mut chains, slot, Cowns::new())?;
         live.insert_reserved(main_behaviour());
         // That its slots are no more than there is room for is told by `capacity` alone.
         let room = live.capacity();
@@ -247,8 +268,7 @@ impl<'a, C: Chains + Drop> Roster<'a, C> {
             .reserve(self.opened as usize - self.homes.len() + 1)?;
         self.log.make_room()?;
         let own = next_slot(&mut self.live, &mut self.ready)?;
-        self.chains
-            .admit(Slot { index: own }, child.cowns.widened())?;
+        admit_at(&mut self.chains, own, child.cowns.widened())?;
         self.live.insert_reserved(child);
         // As in `over`, this tells that the slots are no more than there is room for.
         let room = self.live.capacity();

@@ -14,15 +14,15 @@ blocked_where true = (λ e. absurd (let f : true ≡ false = e in cc), λ e. abs
 blocked_where false = (λ e. refl, λ e. refl)
 
 pub link_at-requires : goal.link_at-requires
-link_at-requires c = (holds_it c.args.slots.now.items c.requires.0 c.args.node c.requires.1.0 c.requires.1.1).exchanged
+link_at-requires c = (holds_it c.args.slots.now c.requires.0 c.args.node c.requires.1.0 c.requires.1.1).exchanged
 
 pub link_at-requires-in-Some : goal.link_at-requires-in-Some
-link_at-requires-in-Some c = (before_it c.args.slots.now.items c.requires.0 c.args.node c.in-Some.before c.requires.1.0 c.link_at.result c.requires.1.1
+link_at-requires-in-Some c = (before_it c.args.slots.now c.requires.0 c.args.node c.in-Some.before c.requires.1.0 c.link_at.result c.requires.1.1
     (c.link_at.ensures c.requires.0 c.requires.1.1.at) c.in-Some.is).exchanged
 
 pub returns-in-None : goal.returns-in-None
 returns-in-None c = λ d xs h.
-    let e = lone_before (links c.args.slots.now.items) d c.args.node.slot xs (seen c.link_at.result) h.inside (ap (option_map seen) (c.link_at.ensures d h.at))
+    let e = lone_before (links c.args.slots.now) d c.args.node.slot xs (seen c.link_at.result) h.inside (ap (option_map seen) (c.link_at.ensures d h.at))
     (ap (option_map (λ (n : Node). n.slot)) c.in-None.is) in
     (λ f. absurd (let g : true ≡ false = f in cc), λ f. absurd (let g : Lone ≡ Blocked = ap answer_behind (sym e) ∙ f in cc))
 

@@ -9,45 +9,43 @@ use Rattle.boc_chain.proofs.Behind.{answered_behind, blocked_behind, linked_behi
 use Rattle.boc_chain.proofs.linked.settle_at.Goals as goal
 
 pub link_at-link-requires : goal.link_at-link-requires
-link_at-link-requires c = (holds_it c.args.slots.now.items c.requires.0 c.args.node c.requires.1.0 c.requires.1.1).exchanged
+link_at-link-requires c = (holds_it c.args.slots.now c.requires.0 c.args.node c.requires.1.0 c.requires.1.1).exchanged
 
 pub change_link-requires : goal.change_link-requires
-change_link-requires c = (holds_it c.args.slots.now.items c.requires.0 c.args.node c.requires.1.0 c.requires.1.1).exchanged
+change_link-requires c = (holds_it c.args.slots.now c.requires.0 c.args.node c.requires.1.0 c.requires.1.1).exchanged
 
 pub link_at-ahead-requires : goal.link_at-ahead-requires
-link_at-ahead-requires c = (before_it c.args.slots.now.items c.requires.0 c.args.node c.in-Some.before c.requires.1.0 c.link_at-link.result c.requires.1.1
+link_at-ahead-requires c = (before_it c.args.slots.now c.requires.0 c.args.node c.in-Some.before c.requires.1.0 c.link_at-link.result c.requires.1.1
     (c.link_at-link.ensures c.requires.0 c.requires.1.1.at) c.in-Some.is).exchanged
 
 pub change_link-requires-then-ahead : goal.change_link-requires-then-ahead
-change_link-requires-then-ahead c = (before_it c.args.slots.now.items c.requires.0 c.args.node c.in-Some.before c.requires.1.0 c.link_at-link.result
-    c.requires.1.1
+change_link-requires-then-ahead c = (before_it c.args.slots.now c.requires.0 c.args.node c.in-Some.before c.requires.1.0 c.link_at-link.result c.requires.1.1
     (c.link_at-link.ensures c.requires.0 c.requires.1.1.at) c.in-Some.is).exchanged
 
 pub change_link-requires-then-ahead-2 : goal.change_link-requires-then-ahead-2
 change_link-requires-then-ahead-2 c =
     omega (
       arith,
-      (holds_it c.args.slots.now.items c.requires.0 c.args.node c.requires.1.0 c.requires.1.1).exchanged,
+      (holds_it c.args.slots.now c.requires.0 c.args.node c.requires.1.0 c.requires.1.1).exchanged,
       ap exchanged_of
           (c.change_link-then-ahead.ensures.places c.args.node.slot),
     )
 
 pub returns-in-None-clause-answer : goal.returns-in-None-clause-answer
 returns-in-None-clause-answer c = λ d xs h.
-    ap answer_behind (sym (lone_before (links c.args.slots.now.items) d c.args.node.slot xs (seen c.link_at-link.result) h.inside
+    ap answer_behind (sym (lone_before (links c.args.slots.now) d c.args.node.slot xs (seen c.link_at-link.result) h.inside
     (ap (option_map seen) (c.link_at-link.ensures d h.at)) (ap (option_map (λ (n : Node). n.slot)) c.in-None.is)))
 
 pub returns-in-None-clause-spelled : goal.returns-in-None-clause-spelled
 returns-in-None-clause-spelled c = λ d xs h.
-    lone_spelled (links c.args.slots.now.items) (links c.change_link.new.slots.items) d c.args.node.slot xs (seen c.link_at-link.result) h.inside
+    lone_spelled (links c.args.slots.now) (links c.change_link.new.slots) d c.args.node.slot xs (seen c.link_at-link.result) h.inside
     (ap (option_map seen) (c.link_at-link.ensures d h.at)) (ap (option_map (λ (n : Node). n.slot)) c.in-None.is)
     (ap (option_map seen) (c.change_link.ensures.here d c.link_at-link.result h.at (c.link_at-link.ensures d h.at)))
     (λ t n. ap (option_map seen) (c.change_link.ensures.other_slots t d n))
 
 pub returns-in-None-clause-placed : goal.returns-in-None-clause-placed
 returns-in-None-clause-placed c = λ d xs h.
-    lone_placed c.args.slots.now.items c.change_link.new.slots.items d c.args.node xs (before c.args.node.slot xs) c.link_at-link.result h
-    (c.link_at-link.ensures d h.at)
+    lone_placed c.args.slots.now c.change_link.new.slots d c.args.node xs (before c.args.node.slot xs) c.link_at-link.result h (c.link_at-link.ensures d h.at)
     (c.change_link.ensures.here d c.link_at-link.result h.at (c.link_at-link.ensures d h.at)) (λ t n. c.change_link.ensures.other_slots t d n)
     c.change_link.ensures.places
 
@@ -56,23 +54,22 @@ returns-then-ahead-clause-answer c = λ d xs h. answered_behind h (c.link_at-lin
 
 pub returns-then-ahead-clause-spelled : goal.returns-then-ahead-clause-spelled
 returns-then-ahead-clause-spelled c = λ d xs h.
-    (linked_behind h (c.link_at-link.ensures d h.at) c.in-Some.is (c.link_at-ahead.ensures d) c.change_link-then-ahead.new.slots.items
-    c.change_link-then-ahead-2.new.slots.items c.if-ahead.true
+    (linked_behind h (c.link_at-link.ensures d h.at) c.in-Some.is (c.link_at-ahead.ensures d) c.change_link-then-ahead.new.slots
+    c.change_link-then-ahead-2.new.slots c.if-ahead.true
     c.change_link-then-ahead.ensures.here c.change_link-then-ahead.ensures.other_slots c.change_link-then-ahead.ensures.places
     c.change_link-then-ahead-2.ensures.here c.change_link-then-ahead-2.ensures.other_slots c.change_link-then-ahead-2.ensures.places).0
 
 pub returns-then-ahead-clause-placed : goal.returns-then-ahead-clause-placed
 returns-then-ahead-clause-placed c = λ d xs h.
-    (linked_behind h (c.link_at-link.ensures d h.at) c.in-Some.is (c.link_at-ahead.ensures d) c.change_link-then-ahead.new.slots.items
-    c.change_link-then-ahead-2.new.slots.items c.if-ahead.true
+    (linked_behind h (c.link_at-link.ensures d h.at) c.in-Some.is (c.link_at-ahead.ensures d) c.change_link-then-ahead.new.slots
+    c.change_link-then-ahead-2.new.slots c.if-ahead.true
     c.change_link-then-ahead.ensures.here c.change_link-then-ahead.ensures.other_slots c.change_link-then-ahead.ensures.places
     c.change_link-then-ahead-2.ensures.here c.change_link-then-ahead-2.ensures.other_slots c.change_link-then-ahead-2.ensures.places).1
 
 pub returns-then-ahead-clause-other_cowns : goal.returns-then-ahead-clause-other_cowns
 returns-then-ahead-clause-other_cowns c = λ d s e xs h n.
-    let it = before_it c.args.slots.now.items d c.args.node c.in-Some.before xs c.link_at-link.result h (c.link_at-link.ensures d h.at) c.in-Some.is in
-    let at = at_kept c.args.slots.now.items c.change_link-then-ahead.new.slots.items c.args.node d (ap cowns_of
-    (c.change_link-then-ahead.ensures.places c.args.node.slot))
+    let it = before_it c.args.slots.now d c.args.node c.in-Some.before xs c.link_at-link.result h (c.link_at-link.ensures d h.at) c.in-Some.is in
+    let at = at_kept c.args.slots.now c.change_link-then-ahead.new.slots c.args.node d (ap cowns_of (c.change_link-then-ahead.ensures.places c.args.node.slot))
     h.at in
     c.change_link-then-ahead-2.ensures.other_cowns d s e at n ∙ c.change_link-then-ahead.ensures.other_cowns d s e it.at n
 
@@ -84,5 +81,5 @@ returns-else-ahead-clause-spelled c = λ d xs h. blocked_behind h (c.link_at-lin
 
 pub returns-else-ahead-clause-placed : goal.returns-else-ahead-clause-placed
 returns-else-ahead-clause-placed c = λ d xs h.
-    placed_kept c.args.slots.now.items c.args.slots.now.items d xs _ h.placed
+    placed_kept c.args.slots.now c.args.slots.now d xs _ h.placed
     (λ t m. subst (λ ys. 0 < times t ys) (slots_settled_behind (before c.args.node.slot xs) c.args.node.slot xs) m) (λ t. refl) (λ t. refl)

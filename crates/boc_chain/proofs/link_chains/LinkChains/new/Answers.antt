@@ -2,4 +2,4 @@ use Rattle.boc_chain.proofs.Calls.{new_chains}
 use Rattle.boc_chain.proofs.link_chains.LinkChains.new.Goals as goal
 
 pub returns-clause-lists : goal.returns-clause-lists
-returns-clause-lists c = (new_chains c.in_ok-last.last.items c.new.result.items c.args.cowns c.in_ok-last.ensures c.new.ensures.items).1
+returns-clause-lists c = (new_chains c.in_ok-last.last.items c.new.result c.args.cowns c.in_ok-last.ensures c.new.ensures.empty).1

@@ -7,7 +7,7 @@ pub next_at-requires : goal.next_at-requires
 next_at-requires c = some_leads c.args.self.now.linked c.args.slot.index c.args.i c.requires.there c.requires.granted
 
 -- what is known of the request
-fronts : (c : After-next_at) → Fronts c.args.self.now.last.items c.args.self.now.slots.items c.args.self.now.peak c.args.slot.index c.args.i c.cown_at-c.result
+fronts : (c : After-next_at) → Fronts c.args.self.now.last.items c.args.self.now.slots c.args.self.now.peak c.args.slot.index c.args.i c.cown_at-c.result
     c.next_at.result
 fronts c = record {
   linked = c.args.self.now.linked;

@@ -7,13 +7,13 @@ change_link-requires c = own_exchanged c.args.self.now.linked c.args.slot.index 
 
 pub invariant_of-self-clause-linked : goal.invariant_of-self-clause-linked
 invariant_of-self-clause-linked c =
-    (flag_call c.args.self.now.linked c.args.slot.index c.args.i c.requires.there c.change_link.new.slots.items c.requires.exchanged
+    (flag_call c.args.self.now.linked c.args.slot.index c.args.i c.requires.there c.change_link.new.slots c.requires.exchanged
     c.change_link.ensures.here c.change_link.ensures.other_slots c.change_link.ensures.other_cowns c.change_link.ensures.places
     c.change_link.ensures.len).0
 
 pub returns-clause-lists : goal.returns-clause-lists
 returns-clause-lists c =
-    (flag_call c.args.self.now.linked c.args.slot.index c.args.i c.requires.there c.change_link.new.slots.items c.requires.exchanged
+    (flag_call c.args.self.now.linked c.args.slot.index c.args.i c.requires.there c.change_link.new.slots c.requires.exchanged
     c.change_link.ensures.here c.change_link.ensures.other_slots c.change_link.ensures.other_cowns c.change_link.ensures.places
     c.change_link.ensures.len).1
 

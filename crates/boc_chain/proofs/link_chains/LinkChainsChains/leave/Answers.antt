@@ -1,4 +1,4 @@
-use Rattle.std.proofs.Common.{◌∙◌, arith, length-set}
+use Rattle.std.proofs.Common.{arith, length-set}
 use Rattle.std.specs.Prelude.{None}
 use Rattle.boc_chain.proofs.Calls.{some_leads, is_last, not_last, Leaves, leave_some, leave_some_answer, leave_blocked, leave_blocked_answer, leave_alone}
 use Rattle.boc_chain.proofs.Calls.{leave_alone_answer}
@@ -9,8 +9,7 @@ pub pass_at-requires : goal.pass_at-requires
 pass_at-requires c = some_leads c.args.self.now.linked c.args.slot.index c.args.i c.requires.there c.requires.granted
 
 -- what is known as it leaves
-leaves : (c : After-pass_at) → Leaves c.args.self.now.last.items c.args.self.now.slots.items c.pass_at.new.slots.items c.args.self.now.peak
-    c.args.slot.index c.args.i
+leaves : (c : After-pass_at) → Leaves c.args.self.now.last.items c.args.self.now.slots c.pass_at.new.slots c.args.self.now.peak c.args.slot.index c.args.i
     c.cown_at-c.result c.pass_at.result
 leaves c = record {
   fronts = record {
@@ -28,29 +27,20 @@ leaves c = record {
 }
 
 pub invariant_of-self : goal.invariant_of-self
-invariant_of-self c = record {
-  few = c.args.self.now.few;
-  counted = c.pass_at.ensures.len ∙ c.args.self.now.counted;
-  linked = (leave_some (leaves (goal.at.invariant_of-self c).After-pass_at) c.in-Some.is).0;
-}
+invariant_of-self c = record { few = c.args.self.now.few; linked = (leave_some (leaves (goal.at.invariant_of-self c).After-pass_at) c.in-Some.is).0 }
 
 pub invariant_of-self-then-is_slot : goal.invariant_of-self-then-is_slot
 invariant_of-self-then-is_slot c =
     let w = leaves (goal.at.invariant_of-self-then-is_slot c).After-pass_at in
     record {
       few = omega (arith, c.args.self.now.few, length-set c.args.self.now.last.items c.cown_at-c.result None);
-      counted = c.pass_at.ensures.len ∙ c.args.self.now.counted;
       linked = (leave_alone w ((is_last w.fronts c.index.ensures c.is_slot.ensures).0 c.if-is_slot.true)).0;
     }
 
 pub invariant_of-self-else-is_slot : goal.invariant_of-self-else-is_slot
 invariant_of-self-else-is_slot c =
     let w = leaves (goal.at.invariant_of-self-else-is_slot c).After-pass_at in
-    record {
-      few = c.args.self.now.few;
-      counted = c.pass_at.ensures.len ∙ c.args.self.now.counted;
-      linked = (leave_blocked w (not_last w.fronts c.index.ensures c.is_slot.ensures c.if-is_slot.false)).0;
-    }
+    record { few = c.args.self.now.few; linked = (leave_blocked w (not_last w.fronts c.index.ensures c.is_slot.ensures c.if-is_slot.false)).0 }
 
 pub returns-in-Some-clause-answer : goal.returns-in-Some-clause-answer
 returns-in-Some-clause-answer c = leave_some_answer (leaves (goal.at.returns-in-Some-clause-answer c).After-pass_at).fronts c.in-Some.is

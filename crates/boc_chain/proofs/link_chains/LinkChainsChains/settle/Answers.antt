@@ -8,7 +8,7 @@ settle_at-requires c = some_holds c.args.self.now.linked c.args.slot.index c.arg
 
 pub invariant_of-self-clause-linked : goal.invariant_of-self-clause-linked
 invariant_of-self-clause-linked c =
-    (settle_call c.args.self.now.linked c.args.slot.index c.args.i c.requires.there c.settle_at.new.slots.items c.requires.exchanged
+    (settle_call c.args.self.now.linked c.args.slot.index c.args.i c.requires.there c.settle_at.new.slots c.requires.exchanged
     c.settle_at.ensures.spelled c.settle_at.ensures.placed c.settle_at.ensures.other_cowns c.settle_at.ensures.places c.settle_at.ensures.len).0
 
 pub returns-clause-answer : goal.returns-clause-answer
@@ -17,7 +17,7 @@ returns-clause-answer c = said_of c.args.self.now.linked c.args.slot.index c.arg
 
 pub returns-clause-lists : goal.returns-clause-lists
 returns-clause-lists c =
-    (settle_call c.args.self.now.linked c.args.slot.index c.args.i c.requires.there c.settle_at.new.slots.items c.requires.exchanged
+    (settle_call c.args.self.now.linked c.args.slot.index c.args.i c.requires.there c.settle_at.new.slots c.requires.exchanged
     c.settle_at.ensures.spelled c.settle_at.ensures.placed c.settle_at.ensures.other_cowns c.settle_at.ensures.places c.settle_at.ensures.len).1
 
 pub overflow_cast-slot : goal.overflow_cast-slot

@@ -5,7 +5,7 @@ use Rattle.boc_chain.proofs.link_chains.LinkChainsChains.swap.Goals as goal
 pub invariant_of-self-clause-linked : goal.invariant_of-self-clause-linked
 invariant_of-self-clause-linked c =
     (swap_call c.args.self.now.linked c.args.slot.index c.args.i c.requires.there c.cown_at-c.result c.cown_at-c.ensures c.index-before.result.now
-    c.index-before.ensures c.push_link.new.slots.items c.requires.next c.push_link.ensures.here c.push_link.ensures.other_slots
+    c.index-before.ensures c.push_link.new.slots c.requires.next c.push_link.ensures.here c.push_link.ensures.other_slots
     c.push_link.ensures.other_cowns c.push_link.ensures.place c.push_link.ensures.other_places c.push_link.ensures.len).0
 
 pub returns-clause-before : goal.returns-clause-before
@@ -15,7 +15,7 @@ returns-clause-before c = c.slot_in.ensures ∙ swap_answer c.args.self.now.link
 pub returns-clause-lists : goal.returns-clause-lists
 returns-clause-lists c =
     (swap_call c.args.self.now.linked c.args.slot.index c.args.i c.requires.there c.cown_at-c.result c.cown_at-c.ensures c.index-before.result.now
-    c.index-before.ensures c.push_link.new.slots.items c.requires.next c.push_link.ensures.here c.push_link.ensures.other_slots
+    c.index-before.ensures c.push_link.new.slots c.requires.next c.push_link.ensures.here c.push_link.ensures.other_slots
     c.push_link.ensures.other_cowns c.push_link.ensures.place c.push_link.ensures.other_places c.push_link.ensures.len).1
 
 pub overflow_cast-slot : goal.overflow_cast-slot

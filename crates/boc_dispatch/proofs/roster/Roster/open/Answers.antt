@@ -1,15 +1,14 @@
 use Rattle.std.proofs.Common.{◌≡◌, ◌≢◌, ◌∙◌, ◌+◌, ◌<◌, ◌≤◌, ℕ, List, length, set, refl, sym, ap, subst, arith, length-set}
 use Rattle.std.specs.Prelude.{Option, Some, None, vec_capacity}
-use Rattle.std.specs.Option.{option_map}
 use Rattle.std.specs.VecDeque.{deque_capacity}
 use Rattle.arrayvec.specs.ArrayVec.{ArrayVec}
 use Rattle.boc_runs.specs.machine.Steps.{unrecorded}
 use Rattle.boc_chain.specs.Chain.{Place, times}
 use Rattle.boc_dispatch.specs.declared.live.Live.{Live}
-use Rattle.boc_dispatch.specs.Inside.{Parts, parts_of, state, live_at, place_of, IsKept, HasRooms}
+use Rattle.boc_dispatch.specs.Inside.{Parts, parts_of, state, live_at, IsKept, HasRooms}
 use Rattle.boc_dispatch.specs.Moves.{Puts}
 use Rattle.boc_dispatch.proofs.ChildOpened.{admit_distinct, admit_in}
-use Rattle.boc_dispatch.proofs.Opening.{roomier, homes_left, free_of, longer, longer_kept, longer_rooms, IsPut, IsPutting, putting}
+use Rattle.boc_dispatch.proofs.Opening.{unused_places, roomier, homes_left, free_of, longer, longer_kept, longer_rooms, IsPut, IsPutting, putting}
 use Rattle.boc_dispatch.proofs.Tables.{SamePlaces, live_other}
 use Rattle.boc_dispatch.proofs.Seated.{seat_same, seat_there}
 use Rattle.boc_dispatch.proofs.Settling.{rooms_in}
@@ -22,8 +21,8 @@ overflow_sub-self g c =
     let d = parts_of g.C.Chains.lists g.C.Chains.place c.args.self.now in
     omega (arith, homes_left d c.requires.sound.kept, c.args.self.now.homes.ok.0, c.len.ensures)
 
-pub admit-requires : goal.admit-requires
-admit-requires g c =
+pub admit_at-requires : goal.admit_at-requires
+admit_at-requires g c =
     let d = parts_of g.C.Chains.lists g.C.Chains.place c.args.self.now in
     let k = c.requires.sound.kept in
     let p = c.requires.runs.0 in
@@ -31,8 +30,7 @@ admit-requires g c =
     let none = free_of d c.args.slot p it.is c.requires.free in
     let cowns_are = ap (λ (l : ArrayVec ℕ). l.items) c.widened.ensures.same in
     record {
-      vacant = k.chained.places c.in_ok-own.own ∙ ap (option_map place_of) c.in_ok-own.ensures.vacant;
-      low = c.in_ok-own.ensures.low;
+      unused = unused_places d k;
       distinct = λ n. subst (λ (z : List ℕ). times n z ≤ 1) (sym cowns_are)
           (admit_distinct d k c.args.row c.args.slot p it none c.args.child c.requires.new c.requires.few n);
       in_range = λ n h. admit_in d k c.args.row c.args.slot p it none c.args.child c.requires.new c.requires.few n
@@ -49,13 +47,13 @@ abbrev seated : (g : Over) → After-capacity-room g → List (Option Live)
 seated g c = c.insert_reserved.new.self.slots
 
 abbrev place : (g : Over) → After-capacity-room g → ℕ → Option Place
-place g c = g.C.Chains.place c.admit.new.self
+place g c = g.C.Chains.place c.admit_at.new.chains
 
 -- all of that, with nobody at the slot
 abbrev before : (g : Over) → After-capacity-room g → Parts
 before g c = record {
   program = c.args.self.now.program.now;
-  lists = g.C.Chains.lists c.admit.new.self;
+  lists = g.C.Chains.lists c.admit_at.new.chains;
   place = place g c;
   live = set (seated g c) c.in_ok-own.own None;
   homes = c.reserve.new.self.items;
@@ -79,7 +77,7 @@ others g c s n = c.insert_reserved.ensures.updates.others s (λ e. n (e ∙ key_
 before_is : (g : Over) (c : After-capacity-room g) → before g c
     ≡ record (was g c) { place = place g c; live = set (seated g c) c.in_ok-own.own None; log = roomier (was g c).log }
 before_is g c =
-    let lists_are : g.C.Chains.lists c.admit.new.self ≡ (was g c).lists = c.in_ok-admit.ensures.lists in
+    let lists_are : g.C.Chains.lists c.admit_at.new.chains ≡ (was g c).lists = c.in_ok-admit_at.ensures.lists in
     let homes_are : c.reserve.new.self.items ≡ (was g c).homes = c.reserve.ensures.items in
     let ready_are : c.next_slot.new.ready.items ≡ (was g c).ready = c.next_slot.ensures.ready in
     let log_is : c.make_room.new.self ≡ roomier (was g c).log = c.in_ok-make_room.ensures in
@@ -89,7 +87,7 @@ free : (g : Over) (c : After-capacity-room g) → c.requires.runs.0.child ≡ No
 free g c = free_of (was g c) c.args.slot c.requires.runs.0 c.requires.runs.1.is c.requires.free
 
 place_own : (g : Over) (c : After-capacity-room g) → place g c c.in_ok-own.own ≡ Some (record { cowns = c.args.child.cowns.items; exchanged = 0 })
-place_own g c = c.in_ok-admit.ensures.here ∙ ap (λ (l : ArrayVec ℕ). Some (record { cowns = l.items; exchanged = 0 })) c.widened.ensures.same
+place_own g c = c.in_ok-admit_at.ensures.here ∙ ap (λ (l : ArrayVec ℕ). Some (record { cowns = l.items; exchanged = 0 })) c.widened.ensures.same
 
 homes_fit : (g : Over) (c : After-capacity-room g) → length (was g c).homes + (unrecorded (state (was g c)) + 1) ≤ vec_capacity c.reserve.new.self
 homes_fit g c = omega (
@@ -121,7 +119,7 @@ put g c =
     (set (seated g c) own None)
     (seat_same (was g c).live (seated g c) own c.args.child (is_there g c) (others g c) c.in_ok-own.ensures.vacant) own c.in_ok-own.ensures.vacant
     (seat_there (was g c).live (seated g c) own c.args.child (is_there g c) (others g c) c.in_ok-own.ensures.vacant)
-    (place g c) (place_own g c) c.in_ok-admit.ensures.other_places (vec_capacity c.reserve.new.self)
+    (place g c) (place_own g c) c.in_ok-admit_at.ensures.other_places (vec_capacity c.reserve.new.self)
     (deque_capacity c.next_slot.new.ready) c.requires.sound.rooms.rooms (homes_fit g c) (omega (arith, fit, c.in_ok-own.ensures.ready_room))
     (omega (arith, fit, c.in_ok-own.ensures.few)) (before g c) (before_is g c)
 
@@ -185,19 +183,19 @@ returns-in_err-own-clause-sound g c =
           c.reserve.ensures.capacity (omega (arith, h.ready, c.next_slot.ensures.grows)) h.few);
     }
 
-pub returns-in_err-admit-clause-sound : goal.returns-in_err-admit-clause-sound
-returns-in_err-admit-clause-sound g c =
+pub returns-in_err-admit_at-clause-sound : goal.returns-in_err-admit_at-clause-sound
+returns-in_err-admit_at-clause-sound g c =
     let d = parts_of g.C.Chains.lists g.C.Chains.place c.args.self.now in
     let k = c.requires.sound.kept in
     let same : SamePlaces d.live d.live = λ s. refl in
-    let lists_are : g.C.Chains.lists c.admit.new.self ≡ d.lists = c.in_err-admit.ensures.lists in
+    let lists_are : g.C.Chains.lists c.admit_at.new.chains ≡ d.lists = c.in_err-admit_at.ensures.lists in
     let homes_are : c.reserve.new.self.items ≡ d.homes = c.reserve.ensures.items in
     let ready_are : c.next_slot.new.ready.items ≡ d.ready = c.next_slot.ensures.ready in
     let log_is : c.make_room.new.self ≡ roomier d.log = c.in_ok-make_room.ensures in
     let live_is : c.next_slot.new.live.slots ≡ d.live = c.next_slot.ensures.slots in
     let e : Parts = record d {
-      lists = g.C.Chains.lists c.admit.new.self;
-      place = g.C.Chains.place c.admit.new.self;
+      lists = g.C.Chains.lists c.admit_at.new.chains;
+      place = g.C.Chains.place c.admit_at.new.chains;
       live = c.next_slot.new.live.slots;
       homes = c.reserve.new.self.items;
       ready = c.next_slot.new.ready.items;
@@ -205,7 +203,7 @@ returns-in_err-admit-clause-sound g c =
     } in
     let is : e ≡ longer d k d.live same = λ i. record d {
       lists = lists_are i;
-      place = λ r. c.in_err-admit.ensures.err r i;
+      place = λ r. c.in_err-admit_at.ensures.err r i;
       live = live_is i;
       homes = homes_are i;
       ready = ready_are i;

@@ -41,7 +41,7 @@ new-requires g c =
 -- ---- the roster that is made
 
 abbrev place : (g : Over) → After-put g → ℕ → Option Place
-place g c = g.C.Chains.place c.admit.new.self
+place g c = g.C.Chains.place c.admit_at.new.chains
 
 main : (g : Over) (c : After-put g) → IsMain c.main_behaviour.result
 main g c =
@@ -80,15 +80,15 @@ room g c = seat_there c.next_slot.new.live.slots (seated g c) c.in_ok-slot.slot 
 here : (g : Over) (c : After-put g) → place g c c.in_ok-slot.slot ≡ Some (record { cowns = []; exchanged = 0 })
 here g c =
     let no_cowns : c.new-2.result.items ≡ [] = c.new-2.ensures in
-    c.in_ok-admit.ensures.here ∙ (λ i. Some (record { cowns = no_cowns i; exchanged = 0 }))
+    c.in_ok-admit_at.ensures.here ∙ (λ i. Some (record { cowns = no_cowns i; exchanged = 0 }))
 
 others : (g : Over) (c : After-put g) (s : ℕ) → s ≢ c.in_ok-slot.slot → place g c s ≡ None
-others g c s n = c.in_ok-admit.ensures.other_places s n ∙ c.requires.none s
+others g c s n = c.in_ok-admit_at.ensures.other_places s n ∙ c.requires.none s
 
 abbrev made : (g : Over) → After-put g → Parts
 made g c = record {
   program = c.args.program.now;
-  lists = g.C.Chains.lists c.admit.new.self;
+  lists = g.C.Chains.lists c.admit_at.new.chains;
   place = place g c;
   live = seated g c;
   homes = c.push_reserved.new.self.items;
@@ -106,7 +106,7 @@ made_is : (g : Over) (c : After-put g) → made g c ≡ opened_parts c.args.prog
 made_is g c =
     let cowns = c.args.program.now.cowns in
     let slot : ℕ = c.in_ok-slot.slot in
-    let lists_are : g.C.Chains.lists c.admit.new.self ≡ replicate (cown_count cowns) [] = c.in_ok-admit.ensures.lists ∙ c.requires.empty in
+    let lists_are : g.C.Chains.lists c.admit_at.new.chains ≡ replicate (cown_count cowns) [] = c.in_ok-admit_at.ensures.lists ∙ c.requires.empty in
     let values_are : c.in_ok-values.values.items ≡ initial_values cowns =
     c.in_ok-values.ensures ∙ ap initial_values c.as_slice.ensures ∙ ap (λ (p : Program). initial_values p.cowns) c.program.ensures in
     let many = ap length values_are in

@@ -10,9 +10,13 @@ use crate::movers::movers_of;
 use crate::picker::Picker;
 use crate::way::Way;
 use boc_dispatch::{Dispatcher, DriveFault, idle_crew, take_turn};
+use boc_progress::Progress;
 use boc_registers::compiled::CompiledProgram;
 use boc_runs::record::Record;
 use std::alloc::Global;
+
+// Progress is reported once in this many steps.
+const STRETCH: u64 = 256;
 
 /// The record of a run that was drawn, the values of the cowns at its end, and how many steps were made.
 #[derive(Drop)]
@@ -25,17 +29,19 @@ pub struct Drawn {
 /// Runs a program by so many virtual workers on this thread. At each turn one of those that can move is picked in this way, by
 /// the words that the seed gives. It thinks where that is due, and makes its step; and so on until all is over. Where the one
 /// that is picked can't make its step, since there is no room for the next wish of its row, the draw ends by that fault.
+/// `progress` receives at every 256th step how many are made, of a number that is not known.
 pub fn draw(
     alloc: Global,
     program: &CompiledProgram<'_>,
     workers: u32,
     way: Way,
     seed: u64,
+    progress: &mut dyn Progress,
 ) -> Result<Drawn, DrawFault>
     requires { (1 ≤ workers) × (workers ≤ MOST_RUNNERS) }
     ensures { IsDraw program.now workers way seed result }
 {
-    let core = play(alloc, program, workers, way, seed)?;
+    let core = play(alloc, program, workers, way, seed, progress)?;
     let values = Vec::from_slice(alloc, core.values())?;
     let steps = core.steps();
     match core.into_record() {
@@ -59,6 +65,7 @@ fn play<'a>(
     workers: u32,
     way: Way,
     seed: u64,
+    progress: &mut dyn Progress,
 ) -> Result<Dispatcher<'a>, DrawFault>
     requires { (1 ≤ workers) × (workers ≤ MOST_RUNNERS) }
     ensures { Plays program.now workers way seed result }
@@ -67,12 +74,18 @@ fn play<'a>(
     let mut crew = idle_crew(alloc, workers)?;
     let mut core = Dispatcher::new(alloc, program)?;
     'turns: while !core.is_quiet() {
+        let made = core.steps();
+        if made % STRETCH == 0 {
+            progress.done(made as usize, 0);
+        }
         let movers = movers_of(&crew, &core);
-        let worker = picker.pick(core.steps(), &movers);
+        let worker = picker.pick(made, &movers);
         if let Err(fault) = take_turn(alloc, &mut crew[worker as usize], &mut core) {
             return Err(fault_of(fault));
         }
     }
+    let all = core.steps() as usize;
+    progress.done(all, all);
     Ok(core)
 }
 

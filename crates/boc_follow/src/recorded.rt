@@ -7,10 +7,14 @@ ghost use Rattle.boc_follow.specs.Strays.{Follows, FollowsAll, IsToldAs};
 
 use crate::follower::{Follower, TakeFault};
 use crate::stray::{StrayFault, StrayFaultKind};
+use boc_progress::Progress;
 use boc_registers::compiled::CompiledProgram;
 use boc_runs::event::Event;
 use boc_runs::record::Record;
 use std::alloc::{AllocError, Global};
+
+// Progress is reported once in this many events.
+const STRETCH: usize = 64;
 
 // How a record strays that has this event, which the program doesn't allow next. It is no start: those a program allows wherever the rule of records does.
 fn kind_of(event: &Event) -> StrayFaultKind
@@ -25,13 +29,21 @@ fn kind_of(event: &Event) -> StrayFaultKind
 }
 
 // Takes the events of a record in their order, up to the first that is not taken.
-fn follow_all(follower: &mut Follower<'_>, recorded: &Record) -> Result<(), StrayFault>
+fn follow_all(
+    follower: &mut Follower<'_>,
+    recorded: &Record,
+    progress: &mut dyn Progress,
+) -> Result<(), StrayFault>
     requires none_yet { follower.old.log ≡ [] }
     requires cowns { recorded.now.cowns ≡ cown_count follower.old.program.cowns }
     ensures { FollowsAll follower.old.program recorded.now result follower.new }
 {
     let events = recorded.events();
-    for place in 0..events.len() {
+    let count = events.len();
+    for place in 0..count {
+        if place % STRETCH == 0 {
+            progress.done(place, count);
+        }
         let event = events.get(place);
         match follower.take(&event) {
             Ok(()) => {}
@@ -43,17 +55,19 @@ fn follow_all(follower: &mut Follower<'_>, recorded: &Record) -> Result<(), Stra
             Err(TakeFault::Memory) => return Err(StrayFault::from(AllocError)),
         }
     }
+    progress.done(count, count);
     Ok(())
 }
 
 /// The run of a program that a record is of, followed to its end, or the first line of the record's text that strays from the program.
 ///
 /// What is handed out has taken all events of the record, so its `values` are those that the run ends with, and it knows what each row is. Memory is refused
-/// with line 0, which says nothing of the record.
+/// with line 0, which says nothing of the record. `progress` receives at every 64th event how many are taken.
 pub fn follow_record<'a>(
     alloc: Global,
     program: &'a CompiledProgram<'a>,
     recorded: &Record,
+    progress: &mut dyn Progress,
 ) -> Result<Follower<'a>, StrayFault>
     ensures { Follows program.now recorded.now result }
 {
@@ -62,6 +76,6 @@ pub fn follow_record<'a>(
         let kind = StrayFaultKind::OtherCowns;
         return Err(StrayFault { line: 1, kind });
     }
-    follow_all(&mut follower, recorded)?;
+    follow_all(&mut follower, recorded, progress)?;
     Ok(follower)
 }

@@ -7,8 +7,8 @@ use crate::asked::Asked;
 use crate::sampling::sampled_between;
 use crate::tally::{Outcomes, Tally};
 use boc_draws::DrawFault;
+use boc_progress::Progress;
 use boc_registers::compiled::CompiledProgram;
-use boc_whatif::Progress;
 use std::alloc::Global;
 use std::thread::Threads;
 
@@ -24,7 +24,7 @@ pub fn outcomes_of(
     alloc: Global,
     program: &CompiledProgram<'_>,
     asked: &Asked,
-    progress: &mut impl Progress,
+    progress: &mut dyn Progress,
 ) -> Result<Outcomes, DrawFault>
     requires { IsAsked asked.now }
     ensures { AnswersAsked program.now asked.now result }

@@ -7,6 +7,7 @@ use crate::asked::Asked;
 use boc_draws::{DrawFault, draw};
 use boc_order::waits_and_plan;
 use boc_plans::sharing::{SeenRows, Sharing};
+use boc_progress::Silent;
 use boc_registers::compiled::CompiledProgram;
 use rayon::prelude::*;
 use std::alloc::Global;
@@ -39,6 +40,7 @@ fn draw_sample(
         asked.workers,
         asked.way,
         asked.seed_of(number),
+        &mut Silent,
     )?;
     let rows = SeenRows::new(drawn.record.rows(), Sharing::Exclusive);
     let (_, plan) = waits_and_plan(alloc, &rows)?;

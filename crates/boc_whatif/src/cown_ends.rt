@@ -7,12 +7,12 @@ ghost use Rattle.boc_greedy.specs.AnyCown.{IsOfRows};
 ghost use Rattle.boc_plans.specs.Sweeps.{IsGreedyEnd, IsGreedyCownSweep};
 ghost use Rattle.boc_whatif.specs.Freed.{AreEndsWithout};
 
-use crate::telling::Progress;
 use boc_greedy::{AnyCown, greedy_end_without};
 use boc_plans::sharing::SeenRows;
 use boc_plans::workers::Workers;
 use boc_program::limits::MOST_COWNS;
 use boc_program::short::HeldCown;
+use boc_progress::Progress;
 use rayon::prelude::*;
 use std::alloc::{AllocError, Global};
 use std::thread::Threads;
@@ -58,7 +58,7 @@ pub fn cown_ends(
     rows: &SeenRows,
     count: usize,
     workers: Workers,
-    progress: &mut impl Progress,
+    progress: &mut dyn Progress,
 ) -> Result<Vec<u64>, AllocError>
     requires shape { IsRows rows.now }
     requires few { count ≤ MOST_COWNS }

@@ -11,11 +11,11 @@ ghost use Rattle.boc_sweep.specs.Lasts.{HasLasts};
 ghost use Rattle.boc_whatif.specs.Parts.{AreParts};
 ghost use Rattle.boc_whatif.specs.Pieces.{AreEnds, IsPiece, ArePieces};
 
-use crate::telling::Progress;
 use boc_greedy::{Consequences, Course, course_to, end_from, greedy_over};
 use boc_order::{Links, work};
 use boc_plans::sharing::{SeenRows, Sharing};
 use boc_plans::workers::Workers;
+use boc_progress::Progress;
 use boc_runs::rows::Rows;
 use boc_sweep::least_ticks;
 use rayon::prelude::*;
@@ -262,7 +262,7 @@ fn all_ends(
     rt: &(impl Threads + Sync),
     alloc: Global,
     parts: &Parts<'_>,
-    progress: &mut impl Progress,
+    progress: &mut dyn Progress,
 ) -> Result<Vec<u64>, AllocError>
     requires parts { AreParts parts.now }
     ensures { IfOk result (λ ends. IsGreedySweep (seen parts.now.sharing parts.now.rows.now) parts.now.workers ends.items) }
@@ -297,7 +297,7 @@ pub fn least_ends(
     lasts: &[u32],
     span: u64,
     workers: Workers,
-    progress: &mut impl Progress,
+    progress: &mut dyn Progress,
 ) -> Result<Vec<u64>, AllocError>
     requires waits { AreWaits (seen sharing rows.now) waits.now }
     requires lasts { HasLasts rows.now lasts.now }

@@ -16,9 +16,8 @@ mod cown_ends;
 mod edits;
 pub mod laws;
 mod least_ends;
-mod telling;
 mod what_if;
 
+pub use boc_progress::{Progress, Silent};
 pub use edits::Unfit;
-pub use telling::{Progress, Silent};
 pub use what_if::WhatIf;

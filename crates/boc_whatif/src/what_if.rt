@@ -18,7 +18,6 @@ ghost use Rattle.boc_whatif.specs.Asked.{least_edited};
 use crate::cown_ends::cown_ends;
 use crate::edits::{Unfit, make, make_all};
 use crate::least_ends::least_ends;
-use crate::telling::Progress;
 use boc_greedy::{Consequences, CurvePoint, Greedy, curve_over, greedy_over};
 use boc_order::{Earliest, Links, Profile, waits_and_plan};
 use boc_plans::edit::{Change, Edit, EditFault};
@@ -26,6 +25,7 @@ use boc_plans::sharing::{SeenRows, Sharing};
 use boc_plans::workers::Workers;
 use boc_program::limits::MOST_ROWS;
 use boc_program::short::HeldCown;
+use boc_progress::Progress;
 use boc_runs::rows::Rows;
 use boc_runs::siblings::Siblings;
 use boc_sweep::{cown_sweep, last_children, spawn_sweep, sweep};
@@ -318,7 +318,7 @@ impl WhatIf {
         alloc: Global,
         count: usize,
         workers: Workers,
-        progress: &mut impl Progress,
+        progress: &mut dyn Progress,
     ) -> Result<Vec<u64>, AllocError>
         requires { count ≤ MOST_COWNS }
         ensures sweep { IfOk result (λ ends. IsGreedyCownSweep (seen self.now.sharing self.now.rows) workers count ends.items) }
@@ -339,7 +339,7 @@ impl WhatIf {
         rt: &(impl Threads + Sync),
         alloc: Global,
         workers: Workers,
-        progress: &mut impl Progress,
+        progress: &mut dyn Progress,
     ) -> Result<Vec<u64>, AllocError>
         ensures sweep { IfOk result (λ ends. IsGreedySweep (seen self.now.sharing self.now.rows) workers ends.items) }
         ensures few { IfOk result (λ ends. length ends.items ≤ MOST_ROWS) }

@@ -4,8 +4,8 @@ use Rattle.boc_draws.proofs.Playing.{PlaysOn}
 use Rattle.boc_draws.proofs.drawing.play.Given as goal
 
 abbrev pub invariant-turns : goal.invariant-turns
-invariant-turns l = PlaysOn l.program l.workers l.fn.way l.seed l.core l.crew.items l.picker
+invariant-turns g l = PlaysOn l.program l.workers l.fn.way l.seed l.core l.crew.items l.picker
 
 -- how many steps more there may be
 abbrev pub decreases-turns : goal.decreases-turns
-decreases-turns l = 36 * MOST_ROWS - l.core.state.steps
+decreases-turns g l = 36 * MOST_ROWS - l.core.state.steps

@@ -14,7 +14,7 @@ use Rattle.boc_eval.proofs.Turning.{rows_are, in_front, first_row, next_row, las
 use Rattle.boc_eval.proofs.serial.serial_end.Goals as goal
 
 pub loop-turn-init : goal.loop-turn-init
-loop-turn-init c = record {
+loop-turn-init g c = record {
   long = omega (arith, c.in_ok-regs.ensures.len, c.in_ok-regs.regs.ok.0);
   rows = c.in_ok-push.ensures.sound;
   reached = omega arith;
@@ -23,7 +23,7 @@ loop-turn-init c = record {
 }
 
 pub loop-turn-preserved : goal.loop-turn-preserved
-loop-turn-preserved c =
+loop-turn-preserved g c =
     let p : Program = c.args.program.now in
     let t = c.in_ok-take_turn.ensures in
     let i = c.loop-turn.invariant in
@@ -56,7 +56,7 @@ loop-turn-preserved c =
     }
 
 pub returns-in_err-take_turn-clause-behaviours : goal.returns-in_err-take_turn-clause-behaviours
-returns-in_err-take_turn-clause-behaviours c e =
+returns-in_err-take_turn-clause-behaviours g c e =
     let p : Program = c.args.program.now in
     let i = c.loop-turn.invariant in
     let old : Rows = c.loop-turn.rows in
@@ -76,7 +76,7 @@ returns-in_err-take_turn-clause-behaviours c e =
     (omega (arith, many, rows_are old))
 
 pub returns-clause-ends : goal.returns-clause-ends
-returns-clause-ends c =
+returns-clause-ends g c =
     let over : length c.loop-turn.rows.rows.items ≤ c.loop-turn.turn = search rules in
     last_row c.args.program.now c.loop-turn.rows c.loop-turn.turn c.loop-turn.values.items (rows_of c.loop-turn.faulted.items) over
     c.loop-turn.invariant.has_reached

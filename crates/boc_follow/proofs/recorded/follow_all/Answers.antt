@@ -5,7 +5,7 @@ use Rattle.boc_follow.proofs.Refusals.{Followed, followed_more, no_start, not_ta
 use Rattle.boc_follow.proofs.recorded.follow_all.Goals as goal
 
 pub kind_of-kind-requires : goal.kind_of-kind-requires
-kind_of-kind-requires c =
+kind_of-kind-requires g c =
     let value = c.events-events.ensures.value in
     no_start c.args.follower.now.program c.args.recorded.now c.loop-place.follower c.loop-place.place c.get-event.result c.events-events.ensures.run
     (subst (λ (es : List Event). Followed c.args.follower.now.program es c.loop-place.follower c.loop-place.place) value c.loop-place.invariant)
@@ -14,7 +14,7 @@ kind_of-kind-requires c =
     c.in-Err-NotAllowed.ensures)
 
 pub returns-in-Err-NotAllowed : goal.returns-in-Err-NotAllowed
-returns-in-Err-NotAllowed c =
+returns-in-Err-NotAllowed g c =
     let value = c.events-events.ensures.value in
     refused_tells c.args.follower.now.program c.args.recorded.now c.loop-place.follower c.loop-place.place _ c.get-event.result c.kind_of-kind.result
     c.requires.cowns
@@ -24,6 +24,6 @@ returns-in-Err-NotAllowed c =
     c.in-Err-NotAllowed.ensures) c.kind_of-kind.ensures refl
 
 pub loop-place-preserved : goal.loop-place-preserved
-loop-place-preserved c =
+loop-place-preserved g c =
     followed_more c.args.follower.now.program c.events-events.result c.loop-place.follower c.take.new.self c.loop-place.place c.get-event.result
     c.loop-place.invariant c.get-event.ensures c.in-Ok.ensures.0 c.in-Ok.ensures.1

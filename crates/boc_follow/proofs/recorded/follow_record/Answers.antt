@@ -8,7 +8,7 @@ use Rattle.boc_follow.proofs.Refusals.{followed_whole}
 use Rattle.boc_follow.proofs.recorded.follow_record.Goals as goal
 
 pub returns : goal.returns
-returns c =
+returns g c =
     let p = c.args.program.now in
     let r = c.args.recorded.now in
     let own : c.in_ok-follower.follower.program ≡ p = ap (λ (x : Following). x.program) c.in_ok-follower.ensures in

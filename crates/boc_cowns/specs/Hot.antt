@@ -118,7 +118,7 @@ pub record AreSorted (count : ℕ) (cowns : List HotCown) : Type 0 where
   pub sorted : (i j : ℕ) (a b : HotCown) → i < j → slice_get cowns i ≡ Some a → slice_get cowns j ≡ Some b → IsHotter a b
 
 -- What is told of so many cowns of these rows: their earliest plan, with the row that each row waits for, and the chain that is picked in it; its end;
--- when the rows end at the earliest in whatever order; the span where reads are shared; and each cown, those that are held longest first.
+-- a lower bound for their end in any order; the span where reads are shared; and each cown, those that are held longest first.
 pub record IsHotCowns (list : List Row) (sharing : Sharing) (count : ℕ) (hot : HotCowns) : Type 0 where
   pub plan : List ℕ
   pub earliest : IsEarliest (seen sharing list) plan

@@ -52,7 +52,7 @@ pub struct HotCown {
 pub struct HotCowns {
     /// The span of the rows: the end of their earliest plan.
     pub span: u64,
-    /// When they end at the earliest, in whatever order they get their cowns.
+    /// A lower bound for their end, in whatever order they get their cowns.
     pub least: Least,
     /// The span that they would have if reads were shared.
     pub shared: u64,
@@ -103,7 +103,7 @@ fn shared_span(alloc: Global, rows: &Rows) -> Result<u64, AllocError>
 
 /// Which cowns hold some rows back: for each of so many cowns, those that are held longest first, how many rows have it and how many wrote it, for how
 /// long it is held by one row alone and waited for, how much of the chain hands it on, and the span that would be left if it ordered nobody; and the
-/// span of the rows, as they are, and where reads are shared, and when they end at the earliest in whatever order. `AllocError` says that memory was
+/// span of the rows, as they are, and where reads are shared, and a lower bound for their end in any order. `AllocError` says that memory was
 /// refused.
 ///
 /// It takes time that grows with the number of rows and their cowns, once for each cown, and memory that grows with the number of rows. Threads share

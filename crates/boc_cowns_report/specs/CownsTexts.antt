@@ -163,7 +163,7 @@ shared_text names SharedReads hot = []
 
 -- ---- all that is told
 
--- the table, how many more cowns there are than it tells, the span, what holds the rows back, the least that any order could end at, and what shared
+-- the table, how many more cowns there are than it tells, the span, what holds the rows back, a lower bound for any order, and what shared
 -- reads would bring
 pub record IsCownsText (names : Names) (sharing : Sharing) (most : Option ℕ) (hot : HotCowns) (text : Text) : Type 0 where
   pub is : text ≡ cowns_table names most hot ++ more_text (length hot.cowns.items - length (told_of most hot.cowns.items)) ++ span_text hot

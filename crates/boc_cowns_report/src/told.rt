@@ -65,8 +65,8 @@ fn put_span(text: &mut Vec<u8>, hot: &HotCowns) -> Result<(), AllocError>
 }
 
 /// What is told of the cowns that hold some rows back: a line for each, or for the first so many; the span, and what of it the spawns alone need;
-/// whether these are what holds the rows back, or else a cown that is held for so long that it is the load, or else the order; the least that any order
-/// could end at; and, where reads aren't shared, what shared reads would bring. All times are ticks. `AllocError` says that memory was refused.
+/// whether these are what holds the rows back, or else a cown that is held for so long that it is the load, or else the order; a lower bound for any
+/// order; and, where reads aren't shared, what shared reads would bring. All times are ticks. `AllocError` says that memory was refused.
 pub fn cowns_text(
     alloc: Global,
     names: &Names,

@@ -1,4 +1,4 @@
--- When the behaviours of some rows end at the earliest, in whatever order they get their cowns.
+-- A lower bound for the end of the behaviours of some rows, in whatever order they get their cowns.
 use Rattle.std.specs.Prelude.{◌≡◌, ◌≢◌, ℕ, ◌+◌, ◌<◌, ◌≤◌, ◌⊎◌, max, min, Bool, true, false, List, [], length, map, filter, nat_eq, Option, Some, None}
 use Rattle.std.specs.Prelude.{slice_index, slice_index_or}
 use Rattle.std.specs.List.{list_any, sum_by}
@@ -81,7 +81,7 @@ abbrev pub IsBusiestOf : List Row → List ℕ → ℕ → Option Busiest → Ty
 IsBusiestOf rows spawned count None = count ≡ 0
 IsBusiestOf rows spawned count (Some busiest) = IsBusiest rows spawned count busiest
 
--- When the rows end at the earliest, in whatever order they get their cowns, of which so many are looked at: by the spawns alone, and by the cown that is
+-- A lower bound for the end of the rows, in whatever order they get their cowns, of which so many are looked at: by the spawns alone, and by the cown that is
 -- busy until the latest tick.
 pub record IsLeast (rows : List Row) (count : ℕ) (least : Least) : Type 0 where
   pub spawned : List ℕ

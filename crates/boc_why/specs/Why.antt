@@ -10,7 +10,7 @@ use Rattle.boc_why.specs.Remedies.{AreCandidates, AreHandedFamilies, tried_of}
 use Rattle.boc_why.specs.declared.why.Why.{Why}
 
 -- For rows with these defs over so many cowns of these families: their profile, with the chain that holds them back; what leads on from each of its
--- steps, its shares by def and by link, what would bring the end forward, and the least that any order of the cowns could end at.
+-- steps, its shares by def and by link, what would bring the end forward, and a lower bound for any order on the cowns.
 pub record IsWhy (rows : List Row) (sharing : Sharing) (defs families : List ℕ) (count : ℕ) (why : Why) : Type 0 where
   pub profile : IsProfileOf (seen sharing rows) why.profile
   pub links : AreLinks (seen sharing rows) defs why.profile.chain.steps.items why.links.items

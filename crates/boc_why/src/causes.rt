@@ -8,8 +8,9 @@ ghost use Rattle.boc_plans.specs.Greedy.{IsSpan};
 ghost use Rattle.boc_plans.specs.Seen.{seen};
 ghost use Rattle.boc_why.specs.Causes.{AreSpansWith, AreSpawnedEarly, IsSpanWith, def_edits, half, without_all};
 
+use boc_order::waits_and_plan;
 use boc_plans::edit::{Change, Edit, Part};
-use boc_plans::sharing::Sharing;
+use boc_plans::sharing::{SeenRows, Sharing};
 use boc_program::short::HeldCown;
 use boc_runs::rows::Rows;
 use boc_whatif::WhatIf;
@@ -88,7 +89,9 @@ fn half() -> Part
 fn span_of(alloc: Global, rows: Rows, sharing: Sharing) -> Result<u64, AllocError>
     ensures { IfOk result (IsSpan (seen sharing rows)) }
 {
-    Ok(WhatIf::of(alloc, rows, sharing)?.span())
+    let seen = SeenRows::new(&rows, sharing);
+    let (_, plan) = waits_and_plan(alloc, &seen)?;
+    Ok(plan.span())
 }
 
 // The span of the rows in which those of a def cost half as much. `AllocError` says that memory was refused.

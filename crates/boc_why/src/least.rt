@@ -1,4 +1,4 @@
-// When the behaviours of some rows end at the earliest, in whatever order they get their cowns.
+// A tick before which the behaviours of some rows don't end, in whatever order they get their cowns.
 
 ghost use Rattle.std.specs.Prelude.{◌≡◌, ℕ, ◌<◌, ◌≤◌, ◌+◌, ◌^◌, All, List, Option, length, take, IfOk};
 ghost use Rattle.boc_runs.specs.Rows.{IsRows};
@@ -25,7 +25,7 @@ pub struct Busiest {
     pub until: u64,
 }
 
-/// When the rows end at the earliest, in whatever order they get their cowns. All times are ticks.
+/// A lower bound for the end of the rows, in whatever order they get their cowns. All times are ticks.
 #[derive(Clone, Copy, PartialEq, Eq, Debug)]
 pub struct Least {
     /// The span that the rows would have if none had a cown.
@@ -147,7 +147,7 @@ pub fn busiest_of(loads: &[u64], firsts: &[Option<u64>], count: usize) -> Option
     best
 }
 
-/// When the rows end at the earliest, in whatever order they get their cowns, of which so many are looked at: by the spawns alone, and by the cown that
+/// A lower bound for the end of the rows, in whatever order they get their cowns, of which so many are looked at: by the spawns alone, and by the cown that
 /// is busy until the latest tick, since the rows that write it start no sooner than the first of them can, and hold it one at a time. `AllocError` says
 /// that memory was refused.
 ///

@@ -1,5 +1,5 @@
 //! Why a run takes as long as it does: what leads on from each row of the chain that holds it back, how much of the chain goes through each def and
-//! each link, what would bring its end forward, and when its behaviours end at the earliest in whatever order they get their cowns.
+//! each link, what would bring its end forward, and a lower bound for any order in which they get their cowns.
 #![tactic(auto)]
 
 mod causes;

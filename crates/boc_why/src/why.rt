@@ -30,7 +30,7 @@ pub struct Why {
     pub by_link: Vec<Share>,
     /// What would bring the end forward, best first.
     pub candidates: Vec<Candidate>,
-    /// The least that any order of the cowns could end at.
+    /// A lower bound for any order on the cowns.
     pub least: Least,
 }
 
@@ -81,7 +81,7 @@ fn tried_for(
 }
 
 /// Why some rows take as long as they do: the chain that holds them back, what leads on from each of its steps, its shares by def and by link, what
-/// would bring the end forward, best first, and the least that any order of the cowns could end at. These are the defs of the rows, and each cown
+/// would bring the end forward, best first, and a lower bound for any order on the cowns. These are the defs of the rows, and each cown
 /// belongs to the family at its place. `AllocError` says that memory was refused.
 ///
 /// Each remedy that is tried takes a plan of its own, with memory and time that grow with the number of rows and their cowns; to leave out an array

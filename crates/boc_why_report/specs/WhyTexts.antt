@@ -142,7 +142,7 @@ reason_text names sharing spawns (Some busiest) =
 abbrev pub bound_text : ℕ → Text
 bound_text tick = codes "lower bound for any order: " ++ decimal tick ++ codes " ("
 
--- the least that any order of the cowns could end at, and why
+-- a lower bound for any order on the cowns, and why
 abbrev pub least_text : Names → Sharing → Least → Text
 least_text names sharing least = bound_text (tick_of least) ++ reason_text names sharing least.spawns least.busiest ++ codes ")\n"
 

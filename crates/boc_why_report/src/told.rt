@@ -153,7 +153,7 @@ fn told_with(
 }
 
 /// What is told of why some rows take as long as they do: their work and their span; the chain that holds them back, step by step, with what each row
-/// hands on; its ticks by def and by link; what would bring the end forward; and the least that any order of the cowns could end at. All times are
+/// hands on; its ticks by def and by link; what would bring the end forward; and a lower bound for any order on the cowns. All times are
 /// ticks. Where not all of the chain is asked for, four or more steps of one def that follow each other stand in one line. Each row of the chain has
 /// to have a start, each step its link, and each share by link the place of one; and the chain's ticks have to add up to the span. `AllocError` says
 /// that memory was refused.

@@ -1,5 +1,7 @@
 """The words of the command line: calls for help, numbers of workers, cowns, edits, and words that are refused."""
+import dataclasses
 import os
+import re
 import tempfile
 
 from .running import Answer, done, fault_of, refused
@@ -8,7 +10,10 @@ from .worked import CURVE, GREEDY, PROFILE, SHORTER, SHORTER_GREEDY, WITHOUT_A
 
 HELP = [["--help"], ["-h"], ["values", "--help"], ["check", "--help"], ["run", "--help"], ["profile", "--help"],
         ["time", "--help"], ["whatif", "--help"], ["curve", "--help"], ["sweep", "--help"], ["why", "--help"], ["cowns", "--help"], ["help"],
-        ["help", "whatif"]]
+        ["help", "whatif"], ["why", "-h"]]
+
+# An option with its text on one line, as short help has them.
+SHORT_OPTION = re.compile(r" {2}(-\w, | {4})--[\w-]+( <\w+>)? {2,}\S.*")
 
 TAKEN = [
     (["profile", "--p=2"], PROFILE + GREEDY),
@@ -275,7 +280,9 @@ def cases(program):
     for words in HELP:
         yield f"help by {words}", fault_of_help(program.run(words, record))
     for command in commands_in(program.run(["--help"], b"").output.decode()):
-        yield f"what help says of the input of {command}", fault_of_input(program.run(["help", command], b"").output.decode())
+        whole = program.run(["help", command], b"").output.decode()
+        yield f"what help says of the input of {command}", fault_of_input(whole)
+        yield f"short help of {command}", fault_of_short_help(program.run([command, "-h"], b"").output.decode(), whole)
     for words, text in TAKEN:
         yield f"taken {words}", fault_of(done(text.encode()), program.run(words, record))
     for words, text in RUNS:
@@ -325,10 +332,21 @@ def fault_of_input(text):
     return f"it has no {lacking[0]!r}" if lacking else None
 
 
+def fault_of_short_help(short, whole):
+    """Short help of a command has its usage and a line for each option, and names the whole help, which begins with the place of the terms."""
+    heads = [part.splitlines()[0] for part in short.split("\n\n")]
+    if len(heads) != 4 or not heads[1].startswith("Usage: boc ") or heads[2:] != ["Arguments:", "Options:"]:
+        return f"its parts are {heads}"
+    strange = [line for line in short.partition("Options:\n")[2].splitlines() if not SHORT_OPTION.fullmatch(line)]
+    if strange or "(see more with '--help')" not in short:
+        return f"it doesn't name the whole help, or has the lines {strange}"
+    return None if whole.startswith(f"{heads[0]}\n\nTerms (cown, row, tick, ..): boc --help\n\n{heads[1]}\n") else f"the whole help begins {whole[:200]!r}"
+
+
 def fault_of_help(answer):
     """A call for help prints a text on standard output, and has the status 0."""
     if answer is not None and answer.output.strip():
-        answer = answer._replace(output=b"")
+        answer = dataclasses.replace(answer, output=b"")
         return fault_of(done(b""), answer)
     return "no text was printed"
 
@@ -336,6 +354,6 @@ def fault_of_help(answer):
 def fault_of_refusal(answer):
     """Words that are refused have the status 2, and a text of the parser's own on standard error."""
     if answer is not None and answer.errors.strip():
-        answer = answer._replace(errors=b"")
+        answer = dataclasses.replace(answer, errors=b"")
         return fault_of(Answer(2, b"", b""), answer)
     return "no text was printed"

@@ -30,9 +30,11 @@ use Rattle.boc_words.specs.Commands.{top_option, workers_option}
 use Rattle.boc_words.specs.EditWords.{IsEditWord, IsWritable, edit_word, is_edit}
 use Rattle.boc_words.specs.declared.asked.AskedCown.{AskedCown}
 use Rattle.boc_words.specs.declared.asked.AskedCown.TheVariants as cowns
+use Rattle.boc_words.specs.declared.asked.AskedCowns.{AskedCowns}
 use Rattle.boc_words.specs.declared.asked.AskedDraws.{AskedDraws}
 use Rattle.boc_words.specs.declared.asked.AskedEdit.{AskedEdit}
 use Rattle.boc_words.specs.declared.asked.AskedPlans.{AskedPlans}
+use Rattle.boc_words.specs.declared.asked.AskedWhy.{AskedWhy}
 use Rattle.boc_words.specs.declared.asked.NamesFrom.{NamesFrom}
 use Rattle.boc_words.specs.declared.asked.NamesFrom.TheVariants as named
 use Rattle.boc_words.specs.declared.asked.RunFile.{RunFile}
@@ -211,6 +213,16 @@ IsUnplanned rows false = IsUnset rows (codes "no-plan")
 abbrev pub ArePlans : List Row → AskedPlans → Type 0
 ArePlans rows plans = AreWorkers rows plans.workers × IsUnplanned rows plans.unplanned
 
+-- this was asked of `why`
+abbrev pub AsksWhy : List Row → AskedWhy → Type 0
+AsksWhy rows asked =
+    IsSchedule rows asked.schedule × AreWorkers rows asked.workers × AreShared rows asked.sharing × IsAll rows asked.all × IsQuiet rows asked.quiet
+
+-- and this of `cowns`
+abbrev pub AsksCowns : List Row → AskedCowns → Type 0
+AsksCowns rows asked =
+    IsSchedule rows asked.schedule × AreShared rows asked.sharing × GivesNumber top_option rows asked.top × IsQuiet rows asked.quiet
+
 -- `--short` was given, and the numbers before and after are told, or it was not
 abbrev pub IsShort : List Row → Bool → Type 0
 IsShort rows true = IsSet rows (codes "short")
@@ -325,12 +337,8 @@ Asks kind rows (commands.WhatIf cowns edits plans sharing names short) =
 Asks kind rows (commands.Curve most sharing) = (kind ≡ called.Curve) × AreUpTo rows most × AreShared rows sharing
 Asks kind rows (commands.Sweep over sharing best) =
     (kind ≡ called.Sweep) × IsOver rows over × AreShared rows sharing × GivesNumber best_option rows best
-Asks kind rows (commands.Why schedule workers sharing file all quiet) =
-    (kind ≡ called.Why) × IsSchedule rows schedule × AreWorkers rows workers × AreShared rows sharing × IsRunFile rows file × IsAll rows all
-    × IsQuiet rows quiet
-Asks kind rows (commands.Cowns schedule sharing file top quiet) =
-    (kind ≡ called.Cowns) × IsSchedule rows schedule × AreShared rows sharing × IsRunFile rows file × GivesNumber top_option rows top
-    × IsQuiet rows quiet
+Asks kind rows (commands.Why asked file) = (kind ≡ called.Why) × AsksWhy rows asked × IsRunFile rows file
+Asks kind rows (commands.Cowns asked file) = (kind ≡ called.Cowns) × AsksCowns rows asked × IsRunFile rows file
 Asks kind rows (commands.Outcomes draws) = (kind ≡ called.Outcomes) × AreDraws rows draws
 Asks kind rows (commands.Help text) = ⊥
 Asks kind rows commands.Version = ⊥

@@ -90,7 +90,7 @@ pub(crate) const SEED: NumberOption = NumberOption {
     letter: None,
     value_name: "S",
     numbers: Numbers::Every,
-    help: "Draw a random run of N workers, reproducible by seed S",
+    help: "Draw a random run from seed S; give -w of 2 or more",
 };
 
 /// By priorities with how many points the worker that moves next is picked.
@@ -125,7 +125,7 @@ pub(crate) const DRAWN_WORKERS: NumberOption = NumberOption {
 
 /// By priorities with how many points each run is drawn.
 pub(crate) const DRAWN_DEPTH: NumberOption = NumberOption {
-    help: "Use random priorities of depth D, 1 to 16 (see below)",
+    help: "Use random priorities of depth D, 1 to 16",
     ..DEPTH
 };
 
@@ -177,7 +177,7 @@ pub(crate) const ALL: FlagOption = FlagOption {
 /// Whether plans share what was only read.
 pub(crate) const SHARING: FlagOption = FlagOption {
     id: "shared-reads",
-    help: "In plans, let behaviours that only read a cown share it",
+    help: "Plan as if rows that only read a cown shared it",
 };
 
 /// Whether the numbers before and after are printed instead of the report.
@@ -204,7 +204,7 @@ pub(crate) const BEST: NumberOption = NumberOption {
 /// Whether notes are left out.
 pub(crate) const QUIET: FlagOption = FlagOption {
     id: "quiet",
-    help: "Do not note behaviours that ended by a fault",
+    help: "Print no notes, such as on rows ended by a fault",
 };
 
 /// How many cowns are printed.
@@ -234,14 +234,14 @@ pub(crate) const PROGRAM: RepeatedOption = RepeatedOption {
 pub(crate) const RECORD: RepeatedOption = RepeatedOption {
     id: "record",
     value_name: "FILE",
-    help: "Take the run recorded in FILE instead of a new one",
+    help: "Take the run that FILE records; run nothing",
 };
 
 /// The file with the names of rows and cowns.
 pub(crate) const NAMES: RepeatedOption = RepeatedOption {
     id: "names",
     value_name: "FILE",
-    help: "Read the names of rows and cowns from FILE (see below)",
+    help: "Read the names of rows and cowns from FILE",
 };
 
 /// The file that the input is read from.
@@ -255,7 +255,7 @@ pub(crate) const INPUT: Operands = Operands {
 pub(crate) const EDITS: Operands = Operands {
     id: "edits",
     value_name: "FILE|EDIT",
-    help: "Record to read, and edits to make (see below)",
+    help: "Record; edits ROW=TICKS, ROW=K/D, DEF=K/D, ROW@OFFSET",
 };
 
 // The limit that the help of `--workers` names.

@@ -2,8 +2,10 @@
 
 use crate::runners::Runners;
 use crate::runs::Runs;
+use crate::schedule::Schedule;
 use boc_draws::Depth;
 use boc_plans::edit::{Edit, Part};
+use boc_plans::sharing::Sharing;
 use boc_plans::workers::Workers;
 use boc_program::short::CownNo;
 
@@ -34,7 +36,35 @@ pub struct AskedPlans {
     pub unplanned: bool,
 }
 
-/// A file beside an input that is a program or a record.
+/// The options of `why`, without the file given with its input.
+#[derive(Clone, Copy, Debug)]
+pub struct AskedWhy {
+    /// How the input is run, if it is a program.
+    pub schedule: Schedule,
+    /// For how many workers it reports the end of the greedy plan, if for any.
+    pub workers: Option<Workers>,
+    /// How rows share cowns in plans.
+    pub sharing: Sharing,
+    /// Whether each row of the chain has a line of its own.
+    pub all: bool,
+    /// Whether notes are left out.
+    pub quiet: bool,
+}
+
+/// The options of `cowns`, without the file given with its input.
+#[derive(Clone, Copy, Debug)]
+pub struct AskedCowns {
+    /// How the input is run, if it is a program.
+    pub schedule: Schedule,
+    /// How rows share cowns in plans.
+    pub sharing: Sharing,
+    /// How many cowns are listed at most, if there is a limit.
+    pub top: Option<u32>,
+    /// Whether notes are left out.
+    pub quiet: bool,
+}
+
+/// A file given with an input that is a program or a record.
 #[derive(Drop, Debug)]
 pub enum RunFile {
     /// The record of the run of the program that comes in.
@@ -43,7 +73,7 @@ pub enum RunFile {
     Names(String),
 }
 
-/// A file beside a record, by which its rows and cowns have names.
+/// A file given with a record, from which its rows and cowns have names.
 #[derive(Drop, Debug)]
 pub enum NamesFrom {
     /// The program that the record is of.
@@ -52,8 +82,8 @@ pub enum NamesFrom {
     Names(String),
 }
 
-/// So many runs, of which the first has this seed and each other one the next, by so many workers, of which the one that moves next is
-/// picked at random among all that can, or by random priorities of this depth.
+/// How many runs to draw, and how. The first has this seed, and each other one the next. The worker that moves next is picked at random among those that can,
+/// or by random priorities if there is a depth.
 #[derive(Clone, Copy, PartialEq, Eq, Debug)]
 pub struct AskedDraws {
     pub runs: Runs,

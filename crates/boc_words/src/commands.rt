@@ -13,7 +13,9 @@ use crate::arguments::{
     SHORT, SWEEP_COWNS, SWEEP_SPAWNS, SWEEP_WORKERS, TOP, WHY_WORKERS, WITHOUT, WORKERS,
 };
 use crate::version::VERSION;
-use boc_program::limits::{MOST_ARGUMENTS, MOST_HELD, MOST_TICKS};
+use boc_program::limits::{
+    MOST_ARGUMENTS, MOST_COWNS, MOST_DEFS, MOST_HELD, MOST_ROWS, MOST_TEXT, MOST_TICKS,
+};
 use std::alloc::{AllocError, Global};
 
 /// Which command is named.
@@ -32,11 +34,28 @@ pub(crate) enum Kind {
     Outcomes,
 }
 
-// What the parser knows of a command: its name, what help says of it, which arguments it takes, and what help says of the lines that it prints.
+// What help says of a command in a line, and at the top of its long form.
+#[derive(Clone, Copy)]
+struct About {
+    line: &'static str,
+    top: &'static str,
+}
+
+// A line on a command, and for the long form where its terms are explained.
+macro_rules! about {
+    ($line:literal) => {
+        About {
+            line: $line,
+            top: concat!($line, "\n\nTerms (cown, row, tick, ..): boc --help"),
+        }
+    };
+}
+
+// What the parser knows of a command: its name, what help says of it, which arguments it takes, and what its long help says below them.
 #[derive(Clone, Copy)]
 struct Entry {
     name: &'static str,
-    about: &'static str,
+    about: About,
     takes: &'static [Argument],
     lines: &'static str,
 }
@@ -62,14 +81,14 @@ give the same run on every machine. One worker leaves nothing to draw, so give
 -w 2 or more.
 
 Depth: with --depth, the workers are in a random order (random priorities, as in
-PCT). At each turn the first one that can move does. Before D - 1 of the steps,
-which are drawn too, the one that would move drops to the last place.
+PCT). At each turn the first one that can move does. Before D - 1 steps or
+fewer, which are drawn too, the one that would move drops to the last place.
 
 Examples:
   boc run -w 4 program.boc > run.record
   boc run -w 4 --seed 3 program.boc | boc profile
 
-See also: boc help why, boc help check. Exit statuses and terms: boc --help.";
+See also: boc help why, boc help check. Exit statuses: boc --help.";
 
 // What the lines of a report say.
 const REPORT_LINES: &str =
@@ -77,7 +96,7 @@ const REPORT_LINES: &str =
 
 Output:
   rows, work, span        Number of rows, their ticks together, and the end of
-                          the earliest plan (a worker for every row)
+                          the earliest plan of this run (a worker for every row)
   chain
   ROW LINK TICKS          A row of the critical path, how it holds back the next
                           one (spawn or order; end for the last), and what it
@@ -95,7 +114,7 @@ Examples:
   boc time -w 4 program.boc
   boc run program.boc | boc profile --p 2 --no-plan
 
-See also: boc help curve. Seeds: boc help run. Statuses and terms: boc --help.";
+See also: boc help curve. Seeds: boc help run. Exit statuses: boc --help.";
 
 // What the lines of a curve say.
 const CURVE_LINES: &str = "The input is the record of a run.
@@ -105,8 +124,8 @@ then a line P END LOW BOUND for each number of workers.
   END    End of the greedy plan (list schedule) for P workers: those that are
          free at a tick take the rows that can start, lowest numbers first.
          It need not fall as P grows.
-  LOW    No plan for P workers ends sooner: the span, or work / P rounded up, if
-         that is greater.
+  LOW    No plan of this run for P workers ends sooner: the span, or work / P
+         rounded up, if that is greater. A plan of another run may.
   BOUND  That greedy plan ends no later (Graham, Brent): work / P rounded down,
          plus span.
 All numbers are ticks, except P.
@@ -114,7 +133,7 @@ All numbers are ticks, except P.
 Examples:
   boc run program.boc | boc curve --p 8
 
-See also: boc help profile. Exit statuses and terms: boc --help.";
+See also: boc help profile. Exit statuses: boc --help.";
 
 // What the lines of a sweep say.
 const SWEEP_LINES: &str =
@@ -124,14 +143,15 @@ of the plan with only that change:
               child (the tick at which the row spawns it). Its children are
               spawned at the same ticks as before. `boc whatif ROW=1/2` spawns
               them sooner too, and may gain more.
-  COWN END    With --cowns: the cown imposes no order.
+  COWN END    With --cowns: the cown imposes no order; all other orders stay.
   ROW SPAN    With --spawns: the row, any except main, is spawned as early as it
               can be: one tick after its earlier sibling, or at its parent's
               tick 1. The first `when` of a program is at tick 2, so a line can
               be a tick below what a program can reach.
 The plan is the earliest plan, whose end is the span. With --p it is the greedy
 plan (list schedule) for P workers, which may end later although a row takes
-fewer ticks. --spawns goes with neither --cowns nor --p.
+fewer ticks. --spawns goes with neither --cowns nor --p. With --p each line is
+planned from nothing: the time grows with the square of the number of rows.
 
 With --best, the lines that end soonest come first, and have a third number, the
 gain: NUMBER END LESS.
@@ -140,57 +160,92 @@ Examples:
   boc run program.boc | boc sweep
   boc run program.boc | boc sweep --cowns --best 3
 
-See also: boc help whatif, boc help why. Exit statuses and terms: boc --help.";
+See also: boc help whatif, boc help why. Exit statuses: boc --help.";
 
 // What `why` prints.
 const WHY_LINES: &str =
     "Input that begins with `boc` is the record of a run. Anything else is a program,
 which is run first. With --record the input is a program, and FILE has its run.
-Ticks count the cost of statements. They are not time.
+Ticks are cost, not time; boc --help has the rule.
 
 Output:
   rows, work, span
-      Number of rows, their ticks together, and the end of the earliest plan (a
-      worker for every row).
+      Number of rows (main, and each behaviour of the run), their ticks
+      together, and when the last row ends if each has a worker, with the spawns
+      and the orders on the cowns of this run. Other runs may differ.
   chain
       The critical path, from main to a row that ends last:
         tick       When the row starts
-        ticks      Ticks until the next row of the chain can proceed
-        row        Its number in spawn order. 15..35 with `6 price` is a folded
-                   line: first and last row, number of rows, and their def.
-        behaviour  Its def, values and cowns; acct[0..5] are those from 0 to 5
-        then       What the row does for the next one: it spawns it, or hands it
-                   the cowns that it waits for. If it hands several, freeing
-                   only one may gain nothing.
+        ticks      Ticks until the next row of the chain can start, or, in the
+                   last row, until it ends
+        row        Its number in spawn order. 15..35 with `6 price` is a fold:
+                   6 rows of price, the first is 15, the last 35. The fold has
+                   the tick of the first and the ticks of all 6.
+        behaviour  Its def, values and cowns; acct[0..5] is acct[0] to acct[5]
+        then       It spawns the next row, hands it cowns that it waits for, or
+                   ends (the last). If it hands several, leaving out only one
+                   may gain nothing. `3 hand on` is of 3 rows of a fold.
+      The number below the chain is the span.
   chain by def, chain by link
-      The span, divided among the defs and among the kinds of link (dependency).
+      The span, divided among the defs, and among the kinds of link: a cown that
+      is handed on (`a and b` if both are at once), `spawn by DEF`, and `end`,
+      the last row. `rows` and `links` count them.
   candidates
-      The span with one change, best first. `less` is the gain:
+      The span with one change, best first. `less` is the gain; it may be 0.
+      Tried are the cowns of the chain, the 20 defs with most of its ticks, and
+      the 20 whose spawns have most of them. If several chains are as long,
+      another def may gain more: try it with boc whatif.
         DEF at 1/2           Each behaviour of DEF takes half its ticks, rounded
-                             up, and spawns correspondingly sooner
-        without COWN         COWN, or array COWN[*], imposes no order
-        early spawns by DEF  Each behaviour of DEF spawns at its ticks 1, 2, ..
-  lower bound for any order: N
-      With the ticks that they took in this run, no order of these behaviours
-      ends before N. The best order may end later.
+                             up, or as many as its spawns need. It spawns as
+                             much sooner, each child at least a tick after the
+                             one before it.
+        without COWN         COWN, or the whole array COWN[*], imposes no order.
+                             All other orders stay, so splitting it may gain
+                             more or less.
+        early spawns by DEF  In each behaviour of DEF the first spawn is at its
+                             tick 1, the second at its tick 2, and so on. A
+                             program's first `when` is at tick 2, so it may gain
+                             up to a tick a row less.
+  lower bound for any order: N (REASON)
+      With the ticks and spawns of this run (which row spawns which, when and in
+      which order), no order of the rows on the cowns ends before N. The best
+      order may end later. Candidates change ticks, spawns or cowns, so they may
+      end sooner. The reasons:
+        COWN is held for H ticks, from tick T on
+            Its rows take H ticks together, one at a time, and none can start
+            before tick T. N is T + H.
+        COWN is written for H ticks, from tick T on
+            The same of the rows that wrote it, with --shared-reads
+        their spawns take that long
+            A row, with the spawns that lead to it, ends at N without any cown
+  the greedy plan for P workers ends at E, its bound is B
+      With --p. No worker of this plan is idle while a row can start. E is at
+      most B, which is work / P, rounded down, plus the span.
 
-Four or more consecutive rows of one def are folded into one line, unless --all
-is given. The other lists stop after 20 lines. Names are those of the program or
-of the file for --names. Without either, rows and cowns have their numbers.
-Lines of a file of names:
-  @ COWN NAME            The name of a cown
+Four or more rows of one def that follow each other on the chain are folded into
+one line, unless --all is given. The other lists stop after 20 lines.
+
+Names are those of the program. A file for --names replaces them one by one, but
+not the cowns in the column behaviour. Without either, rows and cowns have their
+numbers. Lines of a file of names:
+  @ NUMBER NAME          The name of a cown. The first is 0, members of an array
+                         count. x[0] and x[1] are members of an array x[*].
   = ROW NAME [ARG ..]    The name of a row; rows of one NAME are one def
 The file may have blank lines and lines that begin with #.
 
-Threads run the program; --p plans what has run. -w, --seed and --depth have no
-effect on a run that comes from a record.
+Threads run the program, and -w is their number. A plan runs nothing: --p plans
+the run on P workers, and with --shared-reads the span, the chain and all below
+are those of plans in which rows that only read a cown share it. The options -w,
+--seed and --depth have no effect on a run that comes from a record.
 
 Examples:
   boc why program.boc
   boc why -w 4 --seed 3 program.boc
+  boc run program.boc > run.record
+  boc why --record run.record program.boc
 
 See also: boc help cowns, boc help whatif. Seeds and depth: boc help run. Exit
-statuses and terms: boc --help.";
+statuses: boc --help.";
 
 // What `cowns` prints.
 const COWNS_LINES: &str =
@@ -204,29 +259,31 @@ Output, one line per cown, the longest held first:
             that only read it do not count.
   of span   `held` as a percentage of the span, rounded down
   waited    Ticks that its rows wait for it between spawn and start, added up. A
-            row waits for one row: of those that end as it starts, the one with
-            the lowest number. The wait counts in full for each cown that this
-            row hands it.
+            row waits for one row: of those before it on its cowns that end as
+            it starts, the one with the lowest number. The wait counts in full
+            for each cown that this row hands it.
   chain     Ticks of the critical path in rows that hand this cown to the next
             one
-  without   The span if the cown imposed no order. If that is not below the
-            span, freeing only this cown gains nothing: it orders no rows of the
+  without   The span if the cown imposed no order, and all other orders stayed.
+            Splitting it may gain more or less. If it is not below the span,
+            leaving out only this cown gains nothing: it orders no rows of the
             chain, or others order the same rows, or another chain is as long.
             Then try two at once:
               boc run P | boc whatif --program P --short --without A --without B
 
 Below the table are the span, the span if no cown imposed any order, how long
 the busiest cown is held, and a verdict:
-  spawns  The spawns alone need at least 75 % of the span. With the ticks that
-          the rows took in this run, another order of the cowns saves at most a
+  spawns  The spawns alone need at least 75 % of the span. With the ticks and
+          spawns of this run, another order on the cowns saves at most a
           quarter. Spawn earlier, or do less. Once rows are spawned earlier, a
           cown that is held for long may be what limits the run.
   load    Otherwise, one cown is held for at least 75 % of the span: split it,
-          or shorten what holds it. Or one is held for less, but in every order
-          so late that most of what the cowns cost remains. The line then gives
-          the tick before which no row that wrote it starts.
-  order   Neither. No single cown holds the rows back for that long. Another
-          order of the behaviours may end sooner, but there need not be one.
+          or shorten what holds it. Or one is held for less, but so late, in
+          every order with the ticks and spawns of this run, that most of what
+          the cowns cost remains. The line then gives the tick before which no
+          row that wrote it starts.
+  order   Neither: the lower bound shows no such cown. Another order of the
+          behaviours may end sooner, but there need not be one.
 Then comes a lower bound for any order, as in boc why, and the span with
 --shared-reads if that is smaller.
 
@@ -240,7 +297,7 @@ Examples:
   boc run -w 4 program.boc | boc cowns
 
 See also: boc help why, boc help whatif. Seeds and depth: boc help run. Exit
-statuses and terms: boc --help.";
+statuses: boc --help.";
 
 // What `whatif` prints.
 const WHATIF_LINES: &str =
@@ -251,23 +308,25 @@ edit. Edits are made in the order given; K and D are 1 to 1,000:
                 ticks as before. TICKS below 1, or below the offset of the row's
                 last child (the tick that spawns it), is refused as BelowSpawn.
   ROW=K/D       Scale the ticks of a row, and the offsets of its children, by
-                K/D, rounded up. A row keeps at least 1 tick, and at least the
-                offset of its last child.
+                K/D, rounded up, each child at least a tick after the one
+                before it. A row keeps at least 1 tick, and at least the offset
+                of its last child.
   DEF=K/D       Do this for each row of a def.
   ROW@OFFSET    Spawn a row at this tick of its parent.
 
 --without takes the number or the name of a cown, or the name of an array. What
-is left out imposes no order.
+is left out imposes no order; all other orders stay as recorded.
 
 Output: the lines of boc profile, or with --short:
-  work, span    Before and after, and the change of the span. With --p also the
-                end of the greedy plan, before and after.
+  work, span    Before and after, and how the span changes. With --p also the
+                end of the greedy plan, before and after, and how it changes.
   chain         Ticks of the critical path by def, before and after
 
 Names of defs and cowns are those of the program in --program FILE, or those in
 --names FILE. Without either, `row 2` is the def of row 2, and `cown 0` a cown.
 A number always means a row or a cown. Lines of a file of names:
-  @ COWN NAME            The name of a cown
+  @ NUMBER NAME          The name of a cown. The first is 0, members of an array
+                         count. x[0] and x[1] are members of an array x[*].
   = ROW NAME [ARG ..]    The name of a row; rows of one NAME are one def
 The file may have blank lines and lines that begin with #.
 
@@ -275,7 +334,7 @@ Examples:
   boc run program.boc | boc whatif --without 0
   boc run program.boc | boc whatif --program program.boc --short transfer=1/2
 
-See also: boc help why, boc help sweep. Exit statuses and terms: boc --help.";
+See also: boc help why, boc help sweep. Exit statuses: boc --help.";
 
 // What `outcomes` prints.
 const OUTCOMES_LINES: &str =
@@ -307,7 +366,7 @@ What is not promised:
 Depth: without --depth, each worker that can move is equally likely to be next,
 which finds common orders. With it, the workers are in a random order (random
 priorities, as in PCT). At each turn the first one that can move does. Before
-D - 1 of the steps, which are drawn too, the one that would move drops to the
+D - 1 steps or fewer, which are drawn too, the one that would move drops to the
 last place. That finds states that need few switches at the right places, which
 are rare without --depth. Begin with --depth 2.
 
@@ -315,7 +374,7 @@ Examples:
   boc outcomes program.boc
   boc outcomes --runs 10000 --depth 2 program.boc
 
-See also: boc help run, boc help values. Exit statuses and terms: boc --help.";
+See also: boc help run, boc help values. Exit statuses: boc --help.";
 
 // What holds of every command.
 const COMMON_LINES: &str =
@@ -327,16 +386,22 @@ const COMMON_LINES: &str =
     let i = 0;
     repeat 7 { when transfer(10; acct[i], acct[i + 1]); i = i + 1; }
   }
-A def has at most 8 values and 8 cowns, a program at most 256 cowns.
+A comment begins with `#`. A def has at most 8 values and 8 cowns; a program has
+at most 65,536 bytes, 64 defs and 256 cowns; a run has at most 65,535 rows.
 
 Terms:
   behaviour    A task: a body that starts once it holds its cowns.
+  def          The code of behaviours: a body with values and cowns.
   cown         Concurrent owner: a value that one behaviour holds at a time.
                Behaviours get it in the order of their spawns.
   row          A behaviour by its number in spawn order. main is row 0.
-  tick         The cost of statements, by a rule of the language. It is not
-               time. A body takes at most 1,000,000 ticks.
+  tick         A unit of cost, not of time. A body costs 1 to begin, `work N`
+               costs N, any other statement 1, and each turn of a `repeat` 1
+               more. A body takes at most 1,000,000 ticks.
+  record       The spawns, starts and ends of one run, as text.
   work         The ticks of all rows together.
+  plan         A start tick for each row of a run. It keeps the spawns and the
+               orders on the cowns of that run.
   span         The end of the earliest plan (T-infinity, or critical-path
                length). In that plan there is a worker for each row. A row
                starts as soon as it is spawned and the rows before it have left
@@ -345,6 +410,8 @@ Terms:
                cown. The ticks until then add up to the span.
   greedy plan  The list schedule for P workers: those that are free at a tick
                take rows that can start, lowest numbers first.
+  fault        What ends a body early (boc help run has all), or an error in
+               the input.
 
 Input is read from FILE, or from standard input if FILE is missing or `-`. The
 answer goes to standard output, all of it or none, unless a write fails. Faults
@@ -355,22 +422,30 @@ command, and the status is 0: `values`, `run`, `time`, `profile`, `why` and
 
 Exit statuses:
   0  Success
-  2  Invalid command-line arguments
-  3  Invalid input, or an invalid file, cown or edit given with it
+  2  Invalid command-line arguments, or a word that is no edit
+  3  Invalid input or file, or a cown or an edit that the record does not allow
   4  Too many behaviours, or a thread could not be started
-  5  Out of memory, or an I/O error
+  5  Out of memory, a file that cannot be read, or an I/O error
 
 Examples:
-  boc values program.boc             Print the values it ends with
+  boc values program.boc             Print the values after its serial run
   boc why -w 4 program.boc           Show what limits a run on four threads
   boc run program.boc | boc check    Record a run, and check the record
 
-See also: boc help COMMAND, boc-view --help.";
+See also: boc COMMAND -h, boc help COMMAND, boc-view --help.";
 
 // The limits that it names.
 const _: () = prove!(MOST_ARGUMENTS == 8);
 
+const _: () = prove!(MOST_COWNS == 256);
+
+const _: () = prove!(MOST_DEFS == 64);
+
 const _: () = prove!(MOST_HELD == 8);
+
+const _: () = prove!(MOST_ROWS == 65_535);
+
+const _: () = prove!(MOST_TEXT == 65_536);
 
 const _: () = prove!(MOST_TICKS == 1_000_000);
 
@@ -394,11 +469,13 @@ const EVERY_KIND: &[Kind] = &[
 
 const VALUES: Entry = Entry {
     name: "values",
-    about: "Run a program serially and print the values of its cowns",
+    about: about!("Run a program serially and print the values of its cowns"),
     takes: &[Repeated(RECORD), Flag(QUIET), Word(INPUT)],
     lines: "The input is a program. The output is one line per cown: NAME VALUE, or
 NAME[INDEX] VALUE for a member of an array. The values are those after the
-serial run. Other runs may end with others: see boc help outcomes.
+serial run: one behaviour after the other, main first, in the order in which
+they are spawned. Other runs, also that of boc run on one thread, may end with
+others: see boc help outcomes.
 
 With --record, the values are those with which the run recorded in FILE ended.
 It must be a run of the program.
@@ -408,12 +485,12 @@ Examples:
   boc run -w 4 program.boc > run.record
   boc values --record run.record program.boc
 
-See also: boc help run, boc help outcomes. Statuses and terms: boc --help.",
+See also: boc help run, boc help outcomes. Exit statuses: boc --help.",
 };
 
 const CHECK: Entry = Entry {
     name: "check",
-    about: "Check that the record of a run keeps the rules",
+    about: about!("Check that the record of a run keeps the rules"),
     takes: &[Repeated(PROGRAM), Word(INPUT)],
     lines: "The input is the record of a run. The output is `ok ROWS`, its number of rows.
 
@@ -428,12 +505,12 @@ Examples:
   boc run program.boc | boc check
   boc run -w 4 program.boc | boc check --program program.boc
 
-See also: boc help run. Exit statuses and terms: boc --help.",
+See also: boc help run. Exit statuses: boc --help.",
 };
 
 const RUN: Entry = Entry {
     name: "run",
-    about: "Run a program on threads and print the record of the run",
+    about: about!("Run a program on threads and print the record of the run"),
     takes: &[
         Number(RUNNERS_ALONE),
         Number(SEED),
@@ -446,7 +523,7 @@ const RUN: Entry = Entry {
 
 const PROFILE: Entry = Entry {
     name: "profile",
-    about: "Print the work, span, chain and plan of a recorded run",
+    about: about!("Print the work, span, chain and plan of a recorded run"),
     takes: &[
         Number(WORKERS),
         Flag(SHARING),
@@ -459,7 +536,7 @@ const PROFILE: Entry = Entry {
 
 const TIME: Entry = Entry {
     name: "time",
-    about: "Run a program on threads and print the profile of the run",
+    about: about!("Run a program on threads and print the profile of the run"),
     takes: &[
         Number(RUNNERS),
         Number(SEED),
@@ -475,7 +552,7 @@ const TIME: Entry = Entry {
 
 const WHATIF: Entry = Entry {
     name: "whatif",
-    about: "Profile a recorded run with ticks, spawns or cowns changed",
+    about: about!("Profile a recorded run with ticks, spawns or cowns changed"),
     takes: &[
         Number(WORKERS),
         Flag(SHARING),
@@ -491,14 +568,14 @@ const WHATIF: Entry = Entry {
 
 const CURVE: Entry = Entry {
     name: "curve",
-    about: "Print when plans for 1, 2, 3 .. workers end",
+    about: about!("Print when plans for 1, 2, 3 .. workers end"),
     takes: &[Number(CURVE_WORKERS), Flag(SHARING), Word(INPUT)],
     lines: CURVE_LINES,
 };
 
 const SWEEP: Entry = Entry {
     name: "sweep",
-    about: "Print the span with each row, cown or spawn changed in turn",
+    about: about!("Print the span with each row, cown or spawn changed in turn"),
     takes: &[
         Number(SWEEP_WORKERS),
         Flag(SWEEP_COWNS),
@@ -512,7 +589,7 @@ const SWEEP: Entry = Entry {
 
 const WHY: Entry = Entry {
     name: "why",
-    about: "Show what limits a run and what each change would gain",
+    about: about!("Show the critical path of a run and what some changes gain"),
     takes: &[
         Number(RUNNERS),
         Number(SEED),
@@ -530,7 +607,7 @@ const WHY: Entry = Entry {
 
 const COWNS: Entry = Entry {
     name: "cowns",
-    about: "Show how long cowns are held and whether they limit a run",
+    about: about!("Show how long cowns are held and whether they limit a run"),
     takes: &[
         Number(RUNNERS_ALONE),
         Number(SEED),
@@ -547,7 +624,7 @@ const COWNS: Entry = Entry {
 
 const OUTCOMES: Entry = Entry {
     name: "outcomes",
-    about: "Draw many random runs and count the final states they reach",
+    about: about!("Draw many random runs and count the final states they reach"),
     takes: &[
         Number(RUNS),
         Number(FIRST_SEED),
@@ -617,7 +694,7 @@ fn without_commands<'a>(alloc: Global) -> Result<clap::Command<'a>, AllocError>
 {
     clap::Command::new(alloc, "boc")
         .about("Run and profile programs under behaviour-oriented concurrency")
-        .after_help(COMMON_LINES)
+        .after_long_help(COMMON_LINES)
         .version(VERSION)
         .subcommand_required(true)
         .arg_required_else_help(true)
@@ -630,8 +707,9 @@ impl Entry {
         ensures { IfOk result (λ command. Told command (app_of_command (listed_as self.now))) }
     {
         let mut command = clap::Command::new(alloc, self.name)
-            .about(self.about)
-            .after_help(self.lines);
+            .about(self.about.line)
+            .long_about(self.about.top)
+            .after_long_help(self.lines);
         for argument in self.takes {
             command = command.arg(argument.arg(alloc))?;
         }

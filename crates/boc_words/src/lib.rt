@@ -12,7 +12,9 @@ mod schedule;
 mod version;
 mod words;
 
-pub use asked::{AskedCown, AskedDraws, AskedEdit, AskedPlans, NamesFrom, RunFile};
+pub use asked::{
+    AskedCown, AskedCowns, AskedDraws, AskedEdit, AskedPlans, AskedWhy, NamesFrom, RunFile,
+};
 pub use fault::WordsFault;
 pub use runners::Runners;
 pub use runs::Runs;

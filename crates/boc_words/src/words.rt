@@ -21,7 +21,9 @@ use crate::arguments::{
     RUNNERS, RUNS, RepeatedOption, SEED, SHARING, SHORT, SWEEP_COWNS, SWEEP_SPAWNS, TOP, WITHOUT,
     WORKERS,
 };
-use crate::asked::{AskedCown, AskedDraws, AskedEdit, AskedPlans, NamesFrom, RunFile};
+use crate::asked::{
+    AskedCown, AskedCowns, AskedDraws, AskedEdit, AskedPlans, AskedWhy, NamesFrom, RunFile,
+};
 use crate::commands::{Kind, kind_of, parser};
 use crate::edit_word::{edit_of, is_edit};
 use crate::fault::WordsFault;
@@ -98,23 +100,15 @@ pub enum Command {
         sharing: Sharing,
         best: Option<u32>,
     },
-    /// Why the rows of a run of a program, by this schedule where the input is one, or of a record take as long as they do; each row of the
-    /// chain on a line of its own where all are asked for, and the end of the greedy plan for so many workers where a number is given.
+    /// Why the rows of a run of a program or of a record take as long as they do.
     Why {
-        schedule: Schedule,
-        workers: Option<Workers>,
-        sharing: Sharing,
+        asked: AskedWhy,
         file: Option<RunFile>,
-        all: bool,
-        quiet: bool,
     },
-    /// Which cowns of a run or of a record, as for `Why`, are held and waited for; so many where a number is given.
+    /// Which cowns of such a run are held and waited for.
     Cowns {
-        schedule: Schedule,
-        sharing: Sharing,
+        asked: AskedCowns,
         file: Option<RunFile>,
-        top: Option<u32>,
-        quiet: bool,
     },
     /// The ends that runs of a program come to that are drawn, and how often.
     Outcomes(AskedDraws),
@@ -243,19 +237,23 @@ fn asked(alloc: Global, kind: Kind, matches: &ArgMatches) -> Result<Command, Wor
             best: small_number_asked(alloc, matches, &BEST)?,
         }),
         Kind::Why => Ok(Command::Why {
-            schedule: schedule_asked(alloc, matches)?,
-            workers: workers_asked(alloc, matches)?,
-            sharing: sharing_asked(matches),
+            asked: AskedWhy {
+                schedule: schedule_asked(alloc, matches)?,
+                workers: workers_asked(alloc, matches)?,
+                sharing: sharing_asked(matches),
+                all: is_set(texts_at(matches, ALL.id)),
+                quiet: is_set(texts_at(matches, QUIET.id)),
+            },
             file: run_file_asked(alloc, matches)?,
-            all: is_set(texts_at(matches, ALL.id)),
-            quiet: is_set(texts_at(matches, QUIET.id)),
         }),
         Kind::Cowns => Ok(Command::Cowns {
-            schedule: schedule_asked(alloc, matches)?,
-            sharing: sharing_asked(matches),
+            asked: AskedCowns {
+                schedule: schedule_asked(alloc, matches)?,
+                sharing: sharing_asked(matches),
+                top: small_number_asked(alloc, matches, &TOP)?,
+                quiet: is_set(texts_at(matches, QUIET.id)),
+            },
             file: run_file_asked(alloc, matches)?,
-            top: small_number_asked(alloc, matches, &TOP)?,
-            quiet: is_set(texts_at(matches, QUIET.id)),
         }),
         Kind::Outcomes => Ok(Command::Outcomes(draws_asked(alloc, matches)?)),
     }

@@ -26,10 +26,10 @@ pub returns : goal.returns
 returns c =
     let named : Told c.about.result (new_app (codes "boc")) =
     told_fields c.new.result c.about.result (new_app (codes "boc")) _ c.about.ensures c.new.ensures.app c.new.ensures.local in
-    let helped : Told c.after_help.result (new_app (codes "boc")) =
-    told_fields c.about.result c.after_help.result (new_app (codes "boc")) _ c.after_help.ensures named.app_is named.local in
+    let helped : Told c.after_long_help.result (new_app (codes "boc")) =
+    told_fields c.about.result c.after_long_help.result (new_app (codes "boc")) _ c.after_long_help.ensures named.app_is named.local in
     let one : Told c.version.result numbered =
-    told_fields c.after_help.result c.version.result numbered _ c.version.ensures (ap (on_top with_version) helped.app_is) helped.local in
+    told_fields c.after_long_help.result c.version.result numbered _ c.version.ensures (ap (on_top with_version) helped.app_is) helped.local in
     let two : Told c.subcommand_required.result wanting =
     told_fields c.version.result c.subcommand_required.result wanting (record (out-Command c.version.result) { subcommand_required = true })
     c.subcommand_required.ensures

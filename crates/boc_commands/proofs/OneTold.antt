@@ -5,7 +5,6 @@ use Rattle.boc_runs.specs.Records.{IsRecord, Recorded}
 use Rattle.boc_runs.specs.Rows.{IsRows}
 use Rattle.boc_rules.proofs.Finished.{is_rows}
 use Rattle.boc_rules.proofs.Next.{well_log}
-use Rattle.boc_plans.specs.declared.sharing.Sharing.{Sharing}
 use Rattle.boc_plans.specs.Plans.{IsEnd}
 use Rattle.boc_plans.specs.Seen.{seen}
 use Rattle.boc_plans.proofs.Seeing.{rows_seen}
@@ -20,8 +19,9 @@ use Rattle.boc_why_report.proofs.OneText.{one_text as one_why_text}
 use Rattle.boc_cowns.specs.Hot.{IsHotCowns}
 use Rattle.boc_cowns.proofs.One.{cowns_same, least_same, shared_same, span_same}
 use Rattle.boc_cowns_report.proofs.OneText.{one_text as one_cowns_text}
+use Rattle.boc_words.specs.declared.asked.AskedCowns.{AskedCowns}
+use Rattle.boc_words.specs.declared.asked.AskedWhy.{AskedWhy}
 use Rattle.boc_words.specs.declared.asked.RunFile.{RunFile}
-use Rattle.boc_words.specs.declared.schedule.Schedule.{Schedule}
 use Rattle.boc_commands.specs.CownsAnswers.{AreTold}
 use Rattle.boc_commands.specs.NamedRuns.{IsNamedRun}
 use Rattle.boc_commands.specs.Notes.{AreWanted, TellsCowns, TellsWhy, notes_of_rows}
@@ -47,32 +47,33 @@ one_asked_line : (rows : List Row) → IsRows rows → (workers : Option ℕ) (l
 one_asked_line rows hr None line other a b = a ∙ sym b
 one_asked_line rows hr (Some p) line other a b = one_greedy_line rows hr p line other a b
 
-one_told : (rows : List Row) → IsRows rows → (names others : Names) → CallTheSame names others → (sharing : Sharing) (workers : Option ℕ) (all : Bool)
-    (text other : List ℕ) → IsTold rows names sharing workers all text → IsTold rows others sharing workers all other → text ≡ other
-one_told rows hr names others same sharing workers all text other a b =
-    let why : IsWhy rows sharing others.defs.items others.families.items (length others.families.items) a.why =
-    subst (λ (families : List ℕ). IsWhy rows sharing others.defs.items families (length families) a.why) same.families
-    (subst (λ (defs : List ℕ). IsWhy rows sharing defs names.families.items (length names.families.items) a.why) same.defs a.is_why) in
+one_told : (rows : List Row) → IsRows rows → (names others : Names) → CallTheSame names others → (asked : AskedWhy)
+    (text other : List ℕ) → IsTold rows names asked text → IsTold rows others asked other → text ≡ other
+one_told rows hr names others same asked text other a b =
+    let why : IsWhy rows asked.sharing others.defs.items others.families.items (length others.families.items) a.why =
+    subst (λ (families : List ℕ). IsWhy rows asked.sharing others.defs.items families (length families) a.why) same.families
+    (subst (λ (defs : List ℕ). IsWhy rows asked.sharing defs names.families.items (length names.families.items) a.why) same.defs a.is_why) in
     let alike : SayTheSame a.why b.why =
-    one_why rows sharing others.defs.items others.families.items (length others.families.items) a.why b.why why b.is_why in
-    let before : a.without_line ≡ b.without_line = a.told.is ∙ one_why_text names others same sharing a.why b.why alike all ∙ sym b.told.is in
+    one_why rows asked.sharing others.defs.items others.families.items (length others.families.items) a.why b.why why b.is_why in
+    let before : a.without_line ≡ b.without_line =
+    a.told.is ∙ one_why_text names others same asked.sharing a.why b.why alike asked.all ∙ sym b.told.is in
     let line : a.put.line ≡ b.put.line =
-    one_asked_line (seen sharing rows) (rows_seen sharing rows hr) workers a.put.line b.put.line a.put.line_is b.put.line_is in
+    one_asked_line (seen asked.sharing rows) (rows_seen asked.sharing rows hr) asked.workers a.put.line b.put.line a.put.line_is b.put.line_is in
     let put : a.without_line ++ a.put.line ≡ b.without_line ++ b.put.line = λ i. before i ++ line i in
     a.put.put ∙ put ∙ sym b.put.put
 
 -- ---- cowns
 
-told_of_cowns : (rows : List Row) → IsRows rows → (names others : Names) → CallTheSame names others → (sharing : Sharing) (top : Option ℕ)
-    (text other : List ℕ) → AreTold rows names sharing top text → AreTold rows others sharing top other → text ≡ other
-told_of_cowns rows hr names others same sharing top text other a b =
+told_of_cowns : (rows : List Row) → IsRows rows → (names others : Names) → CallTheSame names others → (asked : AskedCowns)
+    (text other : List ℕ) → AreTold rows names asked text → AreTold rows others asked other → text ≡ other
+told_of_cowns rows hr names others same asked text other a b =
     let count : ℕ = length others.families.items in
-    let hot : IsHotCowns rows sharing count a.hot =
-    subst (λ (families : List ℕ). IsHotCowns rows sharing (length families) a.hot) same.families a.is_hot in
+    let hot : IsHotCowns rows asked.sharing count a.hot =
+    subst (λ (families : List ℕ). IsHotCowns rows asked.sharing (length families) a.hot) same.families a.is_hot in
     a.told.is
-    ∙ one_cowns_text names others same a.hot b.hot (span_same rows hr sharing count a.hot b.hot hot b.is_hot)
-    (least_same rows hr sharing count a.hot b.hot hot b.is_hot) (shared_same rows hr sharing count a.hot b.hot hot b.is_hot)
-    (cowns_same rows hr sharing count a.hot b.hot hot b.is_hot) sharing top
+    ∙ one_cowns_text names others same a.hot b.hot (span_same rows hr asked.sharing count a.hot b.hot hot b.is_hot)
+    (least_same rows hr asked.sharing count a.hot b.hot hot b.is_hot) (shared_same rows hr asked.sharing count a.hot b.hot hot b.is_hot)
+    (cowns_same rows hr asked.sharing count a.hot b.hot hot b.is_hot) asked.sharing asked.top
     ∙ sym b.told.is
 
 -- ---- notes
@@ -87,36 +88,34 @@ one_text_of_notes false rows names others same notes other a b =
 
 -- ---- the answers
 
-pub one_why_answer : (schedule : Schedule) (sharing : Sharing) (workers : Option ℕ) (all quiet : Bool) (file : Option RunFile)
-    (bytes input notes output others other : List ℕ) (one : TellsWhy schedule sharing workers all quiet file bytes notes input output)
-    (another : TellsWhy schedule sharing workers all quiet file bytes others input other)
+pub one_why_answer : (asked : AskedWhy) (file : Option RunFile) (bytes input notes output others other : List ℕ)
+    (one : TellsWhy asked file bytes notes input output) (another : TellsWhy asked file bytes others input other)
     → one.answer.recorded ≡ another.answer.recorded → (notes ≡ others) × (output ≡ other)
-one_why_answer schedule sharing workers all quiet file bytes input notes output others other one another same =
+one_why_answer asked file bytes input notes output others other one another same =
     let a = one.answer in
     let b = another.answer in
-    let named : IsNamedRun schedule file bytes input b.recorded a.names =
-    subst (λ (r : Recorded). IsNamedRun schedule file bytes input r a.names) same a.named in
-    let called : CallTheSame a.names b.names = one_named_run schedule file bytes input b.recorded a.names b.names named b.named in (
-      one_text_of_notes quiet b.recorded.rows a.names b.names called notes others
-          (subst (λ (r : Recorded). AreWanted quiet (λ told. told ≡ notes_of_rows (texts_of a.names.rows.items) r.rows) notes) same one.noted)
+    let named : IsNamedRun asked.schedule file bytes input b.recorded a.names =
+    subst (λ (r : Recorded). IsNamedRun asked.schedule file bytes input r a.names) same a.named in
+    let called : CallTheSame a.names b.names = one_named_run asked.schedule file bytes input b.recorded a.names b.names named b.named in (
+      one_text_of_notes asked.quiet b.recorded.rows a.names b.names called notes others
+          (subst (λ (r : Recorded). AreWanted asked.quiet (λ told. told ≡ notes_of_rows (texts_of a.names.rows.items) r.rows) notes) same one.noted)
           another.noted,
-      one_told b.recorded.rows (rows_are b.recorded (run_is_record schedule file bytes input b.recorded b.names b.named)) a.names b.names called sharing
-          workers all output other (subst (λ (r : Recorded). IsTold r.rows a.names sharing workers all output) same a.told) b.told,
+      one_told b.recorded.rows (rows_are b.recorded (run_is_record asked.schedule file bytes input b.recorded b.names b.named)) a.names b.names called asked
+          output other (subst (λ (r : Recorded). IsTold r.rows a.names asked output) same a.told) b.told,
     )
 
-pub one_cowns_answer : (schedule : Schedule) (sharing : Sharing) (top : Option ℕ) (quiet : Bool) (file : Option RunFile)
-    (bytes input notes output others other : List ℕ) (one : TellsCowns schedule sharing top quiet file bytes notes input output)
-    (another : TellsCowns schedule sharing top quiet file bytes others input other)
+pub one_cowns_answer : (asked : AskedCowns) (file : Option RunFile) (bytes input notes output others other : List ℕ)
+    (one : TellsCowns asked file bytes notes input output) (another : TellsCowns asked file bytes others input other)
     → one.answer.recorded ≡ another.answer.recorded → (notes ≡ others) × (output ≡ other)
-one_cowns_answer schedule sharing top quiet file bytes input notes output others other one another same =
+one_cowns_answer asked file bytes input notes output others other one another same =
     let a = one.answer in
     let b = another.answer in
-    let named : IsNamedRun schedule file bytes input b.recorded a.names =
-    subst (λ (r : Recorded). IsNamedRun schedule file bytes input r a.names) same a.named in
-    let called : CallTheSame a.names b.names = one_named_run schedule file bytes input b.recorded a.names b.names named b.named in (
-      one_text_of_notes quiet b.recorded.rows a.names b.names called notes others
-          (subst (λ (r : Recorded). AreWanted quiet (λ told. told ≡ notes_of_rows (texts_of a.names.rows.items) r.rows) notes) same one.noted)
+    let named : IsNamedRun asked.schedule file bytes input b.recorded a.names =
+    subst (λ (r : Recorded). IsNamedRun asked.schedule file bytes input r a.names) same a.named in
+    let called : CallTheSame a.names b.names = one_named_run asked.schedule file bytes input b.recorded a.names b.names named b.named in (
+      one_text_of_notes asked.quiet b.recorded.rows a.names b.names called notes others
+          (subst (λ (r : Recorded). AreWanted asked.quiet (λ told. told ≡ notes_of_rows (texts_of a.names.rows.items) r.rows) notes) same one.noted)
           another.noted,
-      told_of_cowns b.recorded.rows (rows_are b.recorded (run_is_record schedule file bytes input b.recorded b.names b.named)) a.names b.names called sharing
-          top output other (subst (λ (r : Recorded). AreTold r.rows a.names sharing top output) same a.told) b.told,
+      told_of_cowns b.recorded.rows (rows_are b.recorded (run_is_record asked.schedule file bytes input b.recorded b.names b.named)) a.names b.names called
+          asked output other (subst (λ (r : Recorded). AreTold r.rows a.names asked output) same a.told) b.told,
     )

@@ -19,9 +19,11 @@ use Rattle.boc_record.specs.declared.verdict.RecordFaultKind.TheVariants as kind
 use Rattle.boc_commands.specs.declared.fault.Fault.{Fault}
 use Rattle.boc_commands.specs.declared.fault.Fault.TheVariants as faults
 use Rattle.boc_commands.specs.Commands.{AnswersInput, IsRecordRefusal}
+use Rattle.boc_commands.specs.declared.fault.Want.TheVariants as wants
 use Rattle.boc_words.specs.declared.asked.RunFile.{RunFile}
+use Rattle.boc_words.specs.declared.asked.RunFile.TheVariants as run_files
 use Rattle.boc_words.specs.declared.schedule.Schedule.{Schedule}
-use Rattle.boc_commands.specs.NamedRuns.{BeginsRecord, IsCounted, IsOfNamedRun, IsOfRecord, IsShort, IsTaken, RefusesNamedRun, of_record_in_memory}
+use Rattle.boc_commands.specs.NamedRuns.{BeginsRecord, IsCounted, IsOfNamedRun, IsOfOwn, IsOfRecord, IsShort, IsTaken, RefusesNamedRun, of_record_in_memory}
 use Rattle.boc_commands.proofs.Asked.{told}
 
 -- ---- the input
@@ -89,6 +91,20 @@ answers_taken IsAnswer before after text made output taken short answer same = r
 }
 
 -- ---- what is refused
+
+-- want of memory is a fault of an own run
+own_memory : (always_on : Type 0) (schedule : Schedule) (text : List ℕ) → IsOfOwn always_on schedule text (faults.Means wants.Memory)
+own_memory always_on schedule text = elim (begins_or_not text) [
+  | inl begins ↦ inl (begins, tt)
+  | inr none ↦ inr (none, tt)
+]
+
+-- and of any run with its names
+pub no_memory : (always_on : Type 0) (schedule : Schedule) (file : Option RunFile) (bytes text : List ℕ)
+    → IsOfNamedRun always_on schedule file bytes text (faults.Means wants.Memory)
+no_memory always_on schedule None bytes text = own_memory always_on schedule text
+no_memory always_on schedule (Some (run_files.Record path)) bytes text = tt
+no_memory always_on schedule (Some (run_files.Names path)) bytes text = own_memory always_on schedule text
 
 -- an input is refused for what was taken of it
 pub refused_named_run : (always_on : Type 0) (schedule : Schedule) (file : Option RunFile) (bytes : List ℕ) (result : Result (Unit {0}) Fault)

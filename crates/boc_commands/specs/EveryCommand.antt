@@ -35,8 +35,8 @@ abbrev pub file_of : Command → Option (List ℕ)
 file_of (commands.Values record_path quiet) = option_map string_bytes record_path
 file_of (commands.Check program_path) = option_map string_bytes program_path
 file_of (commands.WhatIf cowns edits plans sharing names short) = option_map names_path names
-file_of (commands.Why schedule workers sharing file all quiet) = option_map run_path file
-file_of (commands.Cowns schedule sharing file top quiet) = option_map run_path file
+file_of (commands.Why asked file) = option_map run_path file
+file_of (commands.Cowns asked file) = option_map run_path file
 file_of _ = None
 
 -- ---- every command
@@ -58,10 +58,8 @@ AnswersCommand (commands.WhatIf cowns edits plans sharing names short) beside no
 AnswersCommand (commands.Curve most sharing) beside notes before after text = AnswersInput (IsCurveAnswer sharing most) before after text
 AnswersCommand (commands.Sweep over sharing None) beside notes before after text = AnswersInput (IsSweepAnswer sharing over) before after text
 AnswersCommand (commands.Sweep over sharing (Some most)) beside notes before after text = AnswersInput (IsBestAnswer sharing over most) before after text
-AnswersCommand (commands.Why schedule workers sharing file all quiet) beside notes before after text =
-    AnswersInput (TellsWhy schedule sharing workers all quiet file beside notes) before after text
-AnswersCommand (commands.Cowns schedule sharing file top quiet) beside notes before after text =
-    AnswersInput (TellsCowns schedule sharing top quiet file beside notes) before after text
+AnswersCommand (commands.Why asked file) beside notes before after text = AnswersInput (TellsWhy asked file beside notes) before after text
+AnswersCommand (commands.Cowns asked file) beside notes before after text = AnswersInput (TellsCowns asked file beside notes) before after text
 AnswersCommand (commands.Outcomes draws) beside notes before after text = AnswersInput (IsOutcomesAnswer draws) before after text
 AnswersCommand (commands.Help help) beside notes before after text = (text ≡ string_bytes help) × Keeps before after
 AnswersCommand commands.Version beside notes before after text = (text ≡ VERSION.now) × Keeps before after
@@ -72,8 +70,8 @@ NotesNothing (commands.Values record_path quiet) notes = Unit {0}
 NotesNothing (commands.Run schedule quiet) notes = Unit {0}
 NotesNothing (commands.Profile plans sharing quiet) notes = Unit {0}
 NotesNothing (commands.Time schedule plans sharing quiet) notes = Unit {0}
-NotesNothing (commands.Why schedule workers sharing file all quiet) notes = Unit {0}
-NotesNothing (commands.Cowns schedule sharing file top quiet) notes = Unit {0}
+NotesNothing (commands.Why asked file) notes = Unit {0}
+NotesNothing (commands.Cowns asked file) notes = Unit {0}
 NotesNothing _ notes = notes ≡ []
 
 -- what a command refuses; a call for help or for the version refuses nothing
@@ -90,10 +88,10 @@ RefusesCommand always_on (commands.WhatIf cowns edits plans sharing names short)
     RefusesWhatIf names beside cowns.items edits.items result before
 RefusesCommand always_on (commands.Curve most sharing) beside result before after = RefusesRecord result before
 RefusesCommand always_on (commands.Sweep over sharing best) beside result before after = RefusesRecord result before
-RefusesCommand always_on (commands.Why schedule workers sharing file all quiet) beside result before after =
-    RefusesNamedRun always_on schedule file beside result before after
-RefusesCommand always_on (commands.Cowns schedule sharing file top quiet) beside result before after =
-    RefusesNamedRun always_on schedule file beside result before after
+RefusesCommand always_on (commands.Why asked file) beside result before after =
+    RefusesNamedRun always_on asked.schedule file beside result before after
+RefusesCommand always_on (commands.Cowns asked file) beside result before after =
+    RefusesNamedRun always_on asked.schedule file beside result before after
 RefusesCommand always_on (commands.Outcomes draws) beside result before after = RefusesDraws draws result before after
 RefusesCommand always_on (commands.Help help) beside result before after = RefusesNothing result
 RefusesCommand always_on commands.Version beside result before after = RefusesNothing result

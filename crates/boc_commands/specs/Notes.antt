@@ -14,7 +14,9 @@ use Rattle.boc_names.specs.Names.{NamedCowns, Text, behaviour_text, member_text,
 use Rattle.boc_notes.specs.declared.named.NamedRow.{NamedRow}
 use Rattle.boc_notes.specs.Notes.{faulted_rows, note_of_behaviour, note_of_row, notes_text}
 use Rattle.boc_dispatch.specs.declared.calls.ToldRow.{ToldRow}
+use Rattle.boc_words.specs.declared.asked.AskedCowns.{AskedCowns}
 use Rattle.boc_words.specs.declared.asked.AskedPlans.{AskedPlans}
+use Rattle.boc_words.specs.declared.asked.AskedWhy.{AskedWhy}
 use Rattle.boc_words.specs.declared.asked.RunFile.{RunFile}
 use Rattle.boc_commands.specs.Answers.{IsProfileAnswer, IsValuesAnswer}
 use Rattle.boc_commands.specs.Beside.{IsValuesAfterAnswer}
@@ -101,13 +103,11 @@ pub record TellsProfile (sharing : Sharing) (asked : AskedPlans) (quiet : Bool) 
   pub noted : AreWanted quiet (λ told. told ≡ notes_of_rows [] answer.recorded.rows) notes
 
 -- why the rows of a run take as long as they do, and the notes on them, by their names
-pub record TellsWhy (schedule : Schedule) (sharing : Sharing) (workers : Option ℕ) (all quiet : Bool) (file : Option RunFile)
-    (bytes notes input output : Text) : Type 0 where
-  pub answer : IsWhyAnswer schedule sharing workers all file bytes input output
-  pub noted : AreWanted quiet (λ told. told ≡ notes_of_rows (texts_of answer.names.rows.items) answer.recorded.rows) notes
+pub record TellsWhy (asked : AskedWhy) (file : Option RunFile) (bytes notes input output : Text) : Type 0 where
+  pub answer : IsWhyAnswer asked file bytes input output
+  pub noted : AreWanted asked.quiet (λ told. told ≡ notes_of_rows (texts_of answer.names.rows.items) answer.recorded.rows) notes
 
 -- the cowns of a run, and the same notes on its rows
-pub record TellsCowns (schedule : Schedule) (sharing : Sharing) (top : Option ℕ) (quiet : Bool) (file : Option RunFile)
-    (bytes notes input output : Text) : Type 0 where
-  pub answer : IsCownsAnswer schedule sharing top file bytes input output
-  pub noted : AreWanted quiet (λ told. told ≡ notes_of_rows (texts_of answer.names.rows.items) answer.recorded.rows) notes
+pub record TellsCowns (asked : AskedCowns) (file : Option RunFile) (bytes notes input output : Text) : Type 0 where
+  pub answer : IsCownsAnswer asked file bytes input output
+  pub noted : AreWanted asked.quiet (λ told. told ≡ notes_of_rows (texts_of answer.names.rows.items) answer.recorded.rows) notes

@@ -1,8 +1,7 @@
 -- What the command `why` answers.
-use Rattle.std.specs.Prelude.{◌≡◌, ℕ, Bool, List, [], ◌++◌, length, Option, Some, None}
+use Rattle.std.specs.Prelude.{◌≡◌, ℕ, List, [], ◌++◌, length, Option, Some, None}
 use Rattle.boc_runs.specs.declared.rows.Row.{Row}
 use Rattle.boc_runs.specs.Records.{Recorded}
-use Rattle.boc_plans.specs.declared.sharing.Sharing.{Sharing}
 use Rattle.boc_plans.specs.Greedy.{IsBound, IsGreedy}
 use Rattle.boc_plans.specs.Plans.{IsEnd}
 use Rattle.boc_plans.specs.Seen.{seen}
@@ -10,8 +9,8 @@ use Rattle.boc_names.specs.declared.names.Names.{Names}
 use Rattle.boc_why.specs.declared.why.Why.{Why}
 use Rattle.boc_why.specs.Why.{IsWhy}
 use Rattle.boc_why_report.specs.WhyTexts.{IsWhyText, greedy_line}
+use Rattle.boc_words.specs.declared.asked.AskedWhy.{AskedWhy}
 use Rattle.boc_words.specs.declared.asked.RunFile.{RunFile}
-use Rattle.boc_words.specs.declared.schedule.Schedule.{Schedule}
 use Rattle.boc_commands.specs.NamedRuns.{IsNamedRun}
 
 -- the line of the greedy plan for so many workers: its end, and its bound
@@ -36,19 +35,19 @@ pub record PutsLine (rows : List Row) (workers : Option ℕ) (before after : Lis
   pub line_is : IsAskedLine rows workers line
   pub put : after ≡ before ++ line
 
--- A text tells why these rows take as long as they do, in these names, as they share cowns in this way, and when the greedy plan for so many workers ends,
--- where that was asked for.
-pub record IsTold (rows : List Row) (names : Names) (sharing : Sharing) (workers : Option ℕ) (all : Bool) (text : List ℕ) : Type 0 where
+-- A text tells why these rows take as long as they do, in these names, as they share cowns in the way that was asked for, and when the greedy plan for so
+-- many workers ends, where that was asked for.
+pub record IsTold (rows : List Row) (names : Names) (asked : AskedWhy) (text : List ℕ) : Type 0 where
   pub why : Why
-  pub is_why : IsWhy rows sharing names.defs.items names.families.items (length names.families.items) why
+  pub is_why : IsWhy rows asked.sharing names.defs.items names.families.items (length names.families.items) why
   pub without_line : List ℕ
-  pub told : IsWhyText names sharing all why without_line
-  pub put : PutsLine (seen sharing rows) workers without_line text
+  pub told : IsWhyText names asked.sharing asked.all why without_line
+  pub put : PutsLine (seen asked.sharing rows) asked.workers without_line text
 
--- the rows are those of the run that the input tells of, by this schedule or with the file beside it, and the output tells why they take as long as they do
-pub record IsWhyAnswer (schedule : Schedule) (sharing : Sharing) (workers : Option ℕ) (all : Bool) (file : Option RunFile)
-    (bytes input output : List ℕ) : Type 0 where
+-- The rows are those of the run that the input tells of, by the schedule that was asked for or with the file beside it, and the output tells why they take as
+-- long as they do.
+pub record IsWhyAnswer (asked : AskedWhy) (file : Option RunFile) (bytes input output : List ℕ) : Type 0 where
   pub recorded : Recorded
   pub names : Names
-  pub named : IsNamedRun schedule file bytes input recorded names
-  pub told : IsTold recorded.rows names sharing workers all output
+  pub named : IsNamedRun asked.schedule file bytes input recorded names
+  pub told : IsTold recorded.rows names asked output

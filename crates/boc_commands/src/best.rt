@@ -9,9 +9,10 @@ use crate::fault::Fault;
 use crate::sweep::{ends_of, first_number};
 use boc_plans::sharing::Sharing;
 use boc_plans::sweep::Sweep;
+use boc_progress::Progress;
 use boc_record::read_counted;
 use boc_text::{Sink, Source, put_number, put_out};
-use boc_whatif::{Progress, WhatIf};
+use boc_whatif::WhatIf;
 use boc_why::{Placed, ranked};
 use std::alloc::{AllocError, Global};
 use std::thread::Threads;
@@ -20,13 +21,13 @@ use std::thread::Threads;
 /// numbers first; each with its number, and by how much it is sooner than the plan ends as it is.
 ///
 /// What is refused, and how long it takes, is as for `sweep_cmd`.
-pub fn best_cmd<R: Threads + Sync, P: Progress, S: Source, W: Sink>(
+pub fn best_cmd<R: Threads + Sync, S: Source, W: Sink>(
     rt: &R,
     alloc: Global,
     over: &Sweep,
     most: u32,
     sharing: Sharing,
-    progress: &mut P,
+    progress: &mut dyn Progress,
     source: &mut S,
     sink: &mut W,
 ) -> Result<(), Fault>

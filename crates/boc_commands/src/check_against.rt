@@ -10,6 +10,7 @@ use crate::check::check_text;
 use crate::fault::Fault;
 use boc_follow::follow_record;
 use boc_program::program::Program;
+use boc_progress::Progress;
 use boc_record::read_record;
 use boc_registers::compiled::CompiledProgram;
 use boc_runs::record::Record;
@@ -20,10 +21,11 @@ use std::alloc::Global;
 ///
 /// The file is refused where it spells no program, for what is wrong with it and where, before anything of the source is read; the text as by
 /// `check`; and then a record that is that of no run of the program, for the first line of its text that strays from it. Nothing is written unless
-/// the whole output stands. After a failing write a beginning of it went out.
+/// the whole output stands. After a failing write a beginning of it went out. `progress` receives how many events are followed.
 pub fn check_against_cmd<S: Source, W: Sink>(
     alloc: Global,
     program: &[u8],
+    progress: &mut dyn Progress,
     source: &mut S,
     sink: &mut W,
 ) -> Result<(), Fault>
@@ -37,17 +39,22 @@ pub fn check_against_cmd<S: Source, W: Sink>(
 {
     let program = program_beside(alloc, program)?;
     let recorded = read_record(alloc, source)?;
-    followed(alloc, &program, &recorded)?;
+    followed(alloc, &program, &recorded, progress)?;
     let answer = check_text(alloc, recorded.rows())?;
     put_out(sink, &answer)?;
     Ok(())
 }
 
 // Sees that a record is that of a run of a program.
-fn followed(alloc: Global, program: &Program, recorded: &Record) -> Result<(), Fault>
+fn followed(
+    alloc: Global,
+    program: &Program,
+    recorded: &Record,
+    progress: &mut dyn Progress,
+) -> Result<(), Fault>
     ensures { MatchResult result (λ _. IsRecordOf program.now recorded.now) (IsOfStray program.now recorded.now) }
 {
     let compiled = CompiledProgram::new(alloc, program)?;
-    follow_record(alloc, &compiled, recorded)?;
+    follow_record(alloc, &compiled, recorded, progress)?;
     Ok(())
 }

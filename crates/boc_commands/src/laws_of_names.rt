@@ -6,52 +6,45 @@ ghost use Rattle.boc_runs.specs.Records.{Recorded};
 ghost use Rattle.boc_plans.specs.declared.sharing.Sharing.{Sharing};
 ghost use Rattle.boc_record.specs.RecordTexts.{IsTextOf};
 ghost use Rattle.boc_words.specs.declared.asked.AskedCown.{AskedCown};
+ghost use Rattle.boc_words.specs.declared.asked.AskedCowns.{AskedCowns};
 ghost use Rattle.boc_words.specs.declared.asked.AskedEdit.{AskedEdit};
 ghost use Rattle.boc_words.specs.declared.asked.AskedPlans.{AskedPlans};
+ghost use Rattle.boc_words.specs.declared.asked.AskedWhy.{AskedWhy};
 ghost use Rattle.boc_words.specs.declared.asked.NamesFrom.{NamesFrom};
 ghost use Rattle.boc_words.specs.declared.asked.RunFile.{RunFile};
 ghost use Rattle.boc_words.specs.declared.asked.RunFile.TheVariants as run_files;
-ghost use Rattle.boc_words.specs.declared.schedule.Schedule.{Schedule};
 ghost use Rattle.boc_commands.specs.Notes.{TellsCowns, TellsWhy};
 ghost use Rattle.boc_commands.specs.WhatIfAnswers.{IsWhatIfAnswer};
 
 /// Of one run there is one answer at most of `why`, with one text of notes, and one of `cowns`. Where a program comes in, the threads decide which run is
 /// told of; its record decides all that is told.
 pub fn run_has_one_answer()
-    ensures why { (schedule : Schedule) (sharing : Sharing) (workers : Option ℕ) (all quiet : Bool) (file : Option RunFile)
-        (bytes input notes output others other : List ℕ)
-        → (one : TellsWhy schedule sharing workers all quiet file bytes notes input output)
-        → (another : TellsWhy schedule sharing workers all quiet file bytes others input other)
+    ensures why { (asked : AskedWhy) (file : Option RunFile) (bytes input notes output others other : List ℕ)
+        → (one : TellsWhy asked file bytes notes input output) → (another : TellsWhy asked file bytes others input other)
         → one.answer.recorded ≡ another.answer.recorded → (notes ≡ others) × (output ≡ other) }
-    ensures cowns { (schedule : Schedule) (sharing : Sharing) (top : Option ℕ) (quiet : Bool) (file : Option RunFile)
-        (bytes input notes output others other : List ℕ)
-        → (one : TellsCowns schedule sharing top quiet file bytes notes input output)
-        → (another : TellsCowns schedule sharing top quiet file bytes others input other)
+    ensures cowns { (asked : AskedCowns) (file : Option RunFile) (bytes input notes output others other : List ℕ)
+        → (one : TellsCowns asked file bytes notes input output) → (another : TellsCowns asked file bytes others input other)
         → one.answer.recorded ≡ another.answer.recorded → (notes ≡ others) × (output ≡ other) }
 {}
 
 /// The text of a record has one answer at most of `why`, with one text of notes, and one of `cowns`, with a file of names beside it or without one.
 pub fn record_has_one_answer()
-    ensures why { (schedule : Schedule) (sharing : Sharing) (workers : Option ℕ) (all quiet : Bool) (file : Option RunFile)
-        (bytes input notes output others other : List ℕ)
-        (recorded : Recorded) → IsTextOf input recorded → TellsWhy schedule sharing workers all quiet file bytes notes input output
-        → TellsWhy schedule sharing workers all quiet file bytes others input other → (notes ≡ others) × (output ≡ other) }
-    ensures cowns { (schedule : Schedule) (sharing : Sharing) (top : Option ℕ) (quiet : Bool) (file : Option RunFile)
-        (bytes input notes output others other : List ℕ)
-        (recorded : Recorded) → IsTextOf input recorded → TellsCowns schedule sharing top quiet file bytes notes input output
-        → TellsCowns schedule sharing top quiet file bytes others input other → (notes ≡ others) × (output ≡ other) }
+    ensures why { (asked : AskedWhy) (file : Option RunFile) (bytes input notes output others other : List ℕ) (recorded : Recorded)
+        → IsTextOf input recorded → TellsWhy asked file bytes notes input output → TellsWhy asked file bytes others input other
+        → (notes ≡ others) × (output ≡ other) }
+    ensures cowns { (asked : AskedCowns) (file : Option RunFile) (bytes input notes output others other : List ℕ) (recorded : Recorded)
+        → IsTextOf input recorded → TellsCowns asked file bytes notes input output → TellsCowns asked file bytes others input other
+        → (notes ≡ others) × (output ≡ other) }
 {}
 
 /// A program has one answer at most of `why`, with one text of notes, and one of `cowns`, beside a file with the record of a run of it.
 pub fn run_in_a_file_has_one_answer()
-    ensures why { (schedule : Schedule) (sharing : Sharing) (workers : Option ℕ) (all quiet : Bool) (path : String Global)
-        (bytes input notes output others other : List ℕ)
-        → TellsWhy schedule sharing workers all quiet (Some (run_files.Record path)) bytes notes input output
-        → TellsWhy schedule sharing workers all quiet (Some (run_files.Record path)) bytes others input other → (notes ≡ others) × (output ≡ other) }
-    ensures cowns { (schedule : Schedule) (sharing : Sharing) (top : Option ℕ) (quiet : Bool) (path : String Global)
-        (bytes input notes output others other : List ℕ)
-        → TellsCowns schedule sharing top quiet (Some (run_files.Record path)) bytes notes input output
-        → TellsCowns schedule sharing top quiet (Some (run_files.Record path)) bytes others input other → (notes ≡ others) × (output ≡ other) }
+    ensures why { (asked : AskedWhy) (path : String Global) (bytes input notes output others other : List ℕ)
+        → TellsWhy asked (Some (run_files.Record path)) bytes notes input output
+        → TellsWhy asked (Some (run_files.Record path)) bytes others input other → (notes ≡ others) × (output ≡ other) }
+    ensures cowns { (asked : AskedCowns) (path : String Global) (bytes input notes output others other : List ℕ)
+        → TellsCowns asked (Some (run_files.Record path)) bytes notes input output
+        → TellsCowns asked (Some (run_files.Record path)) bytes others input other → (notes ≡ others) × (output ≡ other) }
 {}
 
 /// What is supposed of a record has one answer of `whatif` at most, at length or in short, with a program, with a file of names, or by numbers.

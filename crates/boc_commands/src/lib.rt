@@ -43,10 +43,10 @@ pub use values_after::values_after_cmd;
 pub use whatif::{Supposed, whatif_cmd, whatif_report};
 pub use why::why_cmd;
 
-// Who is told how far a sweep is.
-pub use boc_whatif::{Progress, Silent};
+// What receives how far a command is.
+pub use boc_progress::{Progress, Silent};
 // What the words of a command line ask for.
 pub use boc_words::{
-    AskedCown, AskedDraws, AskedEdit, AskedPlans, Command, CommandLine, NamesFrom, RunFile,
-    Runners, Runs, Schedule, VERSION, WordsFault, not_text, read_words,
+    AskedCown, AskedCowns, AskedDraws, AskedEdit, AskedPlans, AskedWhy, Command, CommandLine,
+    NamesFrom, RunFile, Runners, Runs, Schedule, VERSION, WordsFault, not_text, read_words,
 };

@@ -25,6 +25,7 @@ use boc_follow::{StrayFault, StrayFaultKind, follow_record};
 use boc_names::{Names, NamesFault, NamesFaultKind, names_of_run, numbers_as_names, read_names};
 use boc_program::program::Program;
 use boc_program::text::Name;
+use boc_progress::Progress;
 use boc_reader::{DefListing, read_listed};
 use boc_record::{RecordFault, RecordFaultKind, read_counted, read_record};
 use boc_registers::compiled::CompiledProgram;
@@ -81,6 +82,7 @@ pub fn named_run<R: Threads + Wait + Sync, G: Gate>(
     text: Vec<u8>,
     origin: Origin<'_>,
     gate: &G,
+    progress: &mut dyn Progress,
 ) -> Result<NamedRun, Fault>
     ensures { MatchResult result
         (λ run. HasRun (IsNamedRun origin.entry.schedule origin.entry.file.now origin.entry.bytes.items text.items) run × IsShort text.items)
@@ -92,12 +94,12 @@ pub fn named_run<R: Threads + Wait + Sync, G: Gate>(
         bytes,
     } = origin;
     let Some(file) = file else {
-        return own_run(rt, alloc, text, schedule, gate);
+        return own_run(rt, alloc, text, schedule, gate, progress);
     };
     match file {
-        RunFile::Record(_) => given_run(alloc, &text, bytes),
+        RunFile::Record(_) => given_run(alloc, &text, bytes, progress),
         RunFile::Names(_) => {
-            let own = own_run(rt, alloc, text, schedule, gate)?;
+            let own = own_run(rt, alloc, text, schedule, gate, progress)?;
             renamed(alloc, own, &bytes)
         }
     }
@@ -110,13 +112,14 @@ fn own_run<R: Threads + Wait + Sync, G: Gate>(
     text: Vec<u8>,
     schedule: Schedule,
     gate: &G,
+    progress: &mut dyn Progress,
 ) -> Result<NamedRun, Fault>
     ensures { MatchResult result (λ run. HasRun (IsOwnRun schedule text.items) run × IsShort text.items) (IsOfOwn G.always_on schedule text.items) }
 {
     if text.starts_with(RECORD_WORD) {
         record_run(alloc, text)
     } else {
-        program_run(rt, alloc, &text, schedule, gate)
+        program_run(rt, alloc, &text, schedule, gate, progress)
     }
 }
 
@@ -156,15 +159,16 @@ fn program_run<R: Threads + Wait + Sync, G: Gate>(
     text: &[u8],
     schedule: Schedule,
     gate: &G,
+    progress: &mut dyn Progress,
 ) -> Result<NamedRun, Fault>
     ensures { MatchResult result
         (λ named. HasRun (IsScheduledRun schedule text.now) named × (length text.now ≤ MOST_TEXT))
         (IsOfRun G.always_on schedule text.now) }
 {
     let (program, defs) = read_listed(alloc, text)?;
-    let record = recorded(rt, alloc, &program, schedule, gate)?;
+    let record = recorded(rt, alloc, &program, schedule, gate, progress)?;
     let defs = called(alloc, defs)?;
-    let names = names_of(alloc, &program, &defs, &record)?;
+    let names = names_of(alloc, &program, &defs, &record, progress)?;
     let rows = record.into_rows();
     // For the proof alone, and free: that they have the shape of rows.
     let _shape = rows.as_slice();
@@ -177,11 +181,12 @@ pub(crate) fn names_of(
     program: &Program,
     defs: &[Name],
     recorded: &Record,
+    progress: &mut dyn Progress,
 ) -> Result<Names, AllocError>
     requires { IsRecordOf program.now recorded.now }
     ensures { IfOk result (AreNamesOf program.now defs.now (config_of program.now recorded.now.events).members) }
 {
-    match names_by(alloc, program, defs, recorded) {
+    match names_by(alloc, program, defs, recorded, progress) {
         Ok(names) => Ok(names),
         Err(StrayFault { kind, .. }) => match kind {
             StrayFaultKind::Memory => Err(AllocError),
@@ -196,13 +201,14 @@ fn names_by(
     program: &Program,
     defs: &[Name],
     recorded: &Record,
+    progress: &mut dyn Progress,
 ) -> Result<Names, StrayFault>
     ensures { MatchResult result
         (λ names. IsRecordOf program.now recorded.now × AreNamesOf program.now defs.now (config_of program.now recorded.now.events).members names)
         (λ fault. Tells program.now recorded.now fault.kind fault.line) }
 {
     let compiled = CompiledProgram::new(alloc, program)?;
-    let followed = follow_record(alloc, &compiled, recorded)?;
+    let followed = follow_record(alloc, &compiled, recorded, progress)?;
     Ok(names_of_run(alloc, &followed, defs)?)
 }
 
@@ -212,6 +218,7 @@ fn followed_names(
     program: &Program,
     defs: Vec<DefListing>,
     recorded: &Record,
+    progress: &mut dyn Progress,
 ) -> Result<Names, StrayFault>
     ensures { MatchResult result
         (λ names. IsRecordOf program.now recorded.now
@@ -219,7 +226,7 @@ fn followed_names(
         (λ fault. Tells program.now recorded.now fault.kind fault.line) }
 {
     let defs = called(alloc, defs)?;
-    names_by(alloc, program, &defs, recorded)
+    names_by(alloc, program, &defs, recorded, progress)
 }
 
 /// What defs are called.
@@ -234,14 +241,19 @@ pub(crate) fn called(alloc: Global, defs: Vec<DefListing>) -> Result<Vec<Name>, 
 }
 
 // The run of the program that a text spells whose record a file has.
-fn given_run(alloc: Global, text: &[u8], bytes: Vec<u8>) -> Result<NamedRun, Fault>
+fn given_run(
+    alloc: Global,
+    text: &[u8],
+    bytes: Vec<u8>,
+    progress: &mut dyn Progress,
+) -> Result<NamedRun, Fault>
     ensures { MatchResult result
         (λ run. HasRun (IsRunGiven text.now bytes.items) run × (length text.now ≤ MOST_TEXT))
         (IsOfGiven text.now bytes.items) }
 {
     let (program, defs) = read_listed(alloc, text)?;
     let recorded = record_beside(alloc, bytes)?;
-    let names = match followed_names(alloc, &program, defs, &recorded) {
+    let names = match followed_names(alloc, &program, defs, &recorded, progress) {
         Ok(names) => names,
         Err(fault) => return Err(of_stray_beside(fault)),
     };
@@ -281,6 +293,7 @@ pub(crate) fn named_record<S: Source>(
     source: &mut S,
     file: &Option<NamesFrom>,
     bytes: &[u8],
+    progress: &mut dyn Progress,
 ) -> Result<NamedRun, Fault>
     requires { S.failures source.old < u64.MAX }
     ensures read { ReadsNamed file.now bytes.now result (S.remaining source.old) (S.remaining source.new) }
@@ -292,7 +305,7 @@ pub(crate) fn named_record<S: Source>(
         return numbered_record(alloc, source);
     };
     match file {
-        NamesFrom::Program(_) => followed_record(alloc, source, bytes),
+        NamesFrom::Program(_) => followed_record(alloc, source, bytes, progress),
         NamesFrom::Names(_) => {
             let numbered = numbered_record(alloc, source)?;
             renamed(alloc, numbered, bytes)
@@ -314,7 +327,12 @@ fn numbered_record<S: Source>(alloc: Global, source: &mut S) -> Result<NamedRun,
 }
 
 // The record whose text a source gives, of a run of the program that a file spells, whose rows and cowns are called as they are in the program's text.
-fn followed_record<S: Source>(alloc: Global, source: &mut S, text: &[u8]) -> Result<NamedRun, Fault>
+fn followed_record<S: Source>(
+    alloc: Global,
+    source: &mut S,
+    text: &[u8],
+    progress: &mut dyn Progress,
+) -> Result<NamedRun, Fault>
     requires { S.failures source.old < u64.MAX }
     ensures read { ReadsRun (IsRunGiven text.now) result (S.remaining source.old) (S.remaining source.new) }
     ensures refused { RefusesAgainst text.now result (S.remaining source.old) }
@@ -323,7 +341,7 @@ fn followed_record<S: Source>(alloc: Global, source: &mut S, text: &[u8]) -> Res
 {
     let (program, defs) = listed_beside(alloc, text)?;
     let recorded = read_record(alloc, source)?;
-    let names = followed_names(alloc, &program, defs, &recorded)?;
+    let names = followed_names(alloc, &program, defs, &recorded, progress)?;
     let rows = recorded.into_rows();
     // For the proof alone, and free: that they have the shape of rows.
     let _shape = rows.as_slice();

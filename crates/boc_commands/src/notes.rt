@@ -14,6 +14,7 @@ use boc_names::{CownNames, behaviour_text, def_names};
 use boc_notes::{MOST_NOTED, NamedRow, faulted_rows, notes_on_named, notes_on_rows};
 use boc_program::program::Program;
 use boc_program::text::Name;
+use boc_progress::Progress;
 use boc_reader::DefListing;
 use boc_runs::record::Record;
 use boc_runs::rows::Rows;
@@ -93,6 +94,7 @@ fn notes_on_faulted(
     recorded: &Record,
     told: &[ToldRow],
     faulted: &[u32],
+    progress: &mut dyn Progress,
 ) -> Result<Vec<u8>, AllocError>
     requires run { IsRecordOf program.now recorded.now }
     requires told { AreRight (config_of program.now recorded.now.events).members told.now }
@@ -104,7 +106,7 @@ fn notes_on_faulted(
     if let Some(notes) = notes_on_named(alloc, rows, faulted, &named)? {
         return Ok(notes);
     }
-    let names = names_of(alloc, program, defs, recorded)?;
+    let names = names_of(alloc, program, defs, recorded, progress)?;
     notes_on_rows(alloc, rows, faulted, &names.rows)
 }
 
@@ -116,6 +118,7 @@ pub(crate) fn notes_on_run(
     defs: Vec<DefListing>,
     recorded: &Record,
     told: &[ToldRow],
+    progress: &mut dyn Progress,
 ) -> Result<Vec<u8>, AllocError>
     requires run { IsRecordOf program.now recorded.now }
     requires told { AreRight (config_of program.now recorded.now.events).members told.now }
@@ -130,5 +133,5 @@ pub(crate) fn notes_on_run(
         return Ok(Vec::new(alloc));
     }
     let defs = called(alloc, defs)?;
-    notes_on_faulted(alloc, program, &defs, recorded, told, &faulted)
+    notes_on_faulted(alloc, program, &defs, recorded, told, &faulted, progress)
 }

@@ -10,10 +10,10 @@ use crate::values::MOST_TAKEN;
 use boc_draws::way_of;
 use boc_ends_report::outcomes_text;
 use boc_outcomes::{Asked, outcomes_of};
+use boc_progress::Progress;
 use boc_reader::read_listed;
 use boc_registers::compiled::CompiledProgram;
 use boc_text::{Sink, Source, put_out, read_all};
-use boc_whatif::Progress;
 use boc_words::AskedDraws;
 use std::alloc::Global;
 use std::thread::Threads;
@@ -23,11 +23,11 @@ use std::thread::Threads;
 /// A program text is refused only where it spells no program, for what is wrong with it and where, and draws only where one of them has
 /// too many behaviours. Nothing is written unless the whole answer stands. After a failing write a beginning of it went out. Threads share
 /// out the draws, and `progress` is told how many are done.
-pub fn outcomes_cmd<R: Threads + Sync, P: Progress, S: Source, W: Sink>(
+pub fn outcomes_cmd<R: Threads + Sync, S: Source, W: Sink>(
     rt: &R,
     alloc: Global,
     draws: AskedDraws,
-    progress: &mut P,
+    progress: &mut dyn Progress,
     source: &mut S,
     sink: &mut W,
 ) -> Result<(), Fault>
@@ -46,19 +46,19 @@ pub fn outcomes_cmd<R: Threads + Sync, P: Progress, S: Source, W: Sink>(
 }
 
 // The text of the ends that runs come to which are drawn of the program that a text spells.
-fn outcomes_told<R: Threads + Sync, P: Progress>(
+fn outcomes_told<R: Threads + Sync>(
     rt: &R,
     alloc: Global,
     text: &[u8],
     draws: AskedDraws,
-    progress: &mut P,
+    progress: &mut dyn Progress,
 ) -> Result<Vec<u8>, Fault>
     ensures { MatchResult result (λ answer. IsOutcomesAnswer draws text.now answer.items × (length text.now ≤ MOST_TEXT)) (IsOfDraws draws text.now) }
 {
     let (program, _) = read_listed(alloc, text)?;
     let workers = draws.workers.number();
     let compiled = CompiledProgram::new(alloc, &program)?;
-    let way = way_of(alloc, &compiled, workers, draws.depth)?;
+    let way = way_of(alloc, &compiled, workers, draws.depth, progress)?;
     let asked = Asked {
         runs: draws.runs.number(),
         seed: draws.seed,

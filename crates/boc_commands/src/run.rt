@@ -15,6 +15,7 @@ use crate::values::MOST_TAKEN;
 use boc_dispatch::ToldRow;
 use boc_draws::{Depth, DrawFault, draw, way_of};
 use boc_program::program::Program;
+use boc_progress::Progress;
 use boc_reader::read_listed;
 use boc_record::write_record;
 use boc_registers::compiled::CompiledProgram;
@@ -32,13 +33,15 @@ use std::thread::Threads;
 /// A program text is refused only where it spells no program, for what is wrong with it and where. A run by threads is refused for having too many behaviours
 /// only where the program can come to as many as there may be, with one more due; a gate that is always on holds nobody. A run that a seed draws is refused
 /// only for having too many behaviours, and only where that very draw has, by these workers and at this depth, or the one by which the steps of the depth are
-/// counted. Nothing is written unless the whole answer stands. After a failing write a beginning of it went out.
+/// counted. Nothing is written unless the whole answer stands. After a failing write a beginning of it went out. `progress` receives how
+/// far a draw is; the gate sees the threads.
 pub fn run_cmd<R: Threads + Wait + Sync, G: Gate, S: Source, W: Sink>(
     rt: &R,
     alloc: Global,
     schedule: Schedule,
     quiet: bool,
     gate: &G,
+    progress: &mut dyn Progress,
     notes: &mut Vec<u8>,
     source: &mut S,
     sink: &mut W,
@@ -52,7 +55,7 @@ pub fn run_cmd<R: Threads + Wait + Sync, G: Gate, S: Source, W: Sink>(
     ensures sink { CountsSink result (W.failures sink.old) (W.failures sink.new) }
 {
     let text = read_all(alloc, source, MOST_TAKEN)?;
-    let noted = noted_run(rt, alloc, &text, schedule, quiet, gate)?;
+    let noted = noted_run(rt, alloc, &text, schedule, quiet, gate, progress)?;
     *notes = noted.notes;
     write_record(alloc, &noted.record, sink)?;
     Ok(())
@@ -73,6 +76,7 @@ pub(crate) fn noted_run<R: Threads + Wait + Sync, G: Gate>(
     schedule: Schedule,
     quiet: bool,
     gate: &G,
+    progress: &mut dyn Progress,
 ) -> Result<NotedRun, Fault>
     ensures { MatchResult result
         (λ noted. IsRunOfText text.now noted.record × IsScheduledText text.now schedule noted.record
@@ -80,8 +84,16 @@ pub(crate) fn noted_run<R: Threads + Wait + Sync, G: Gate>(
         (IsOfRun G.always_on schedule text.now) }
 {
     let (program, defs) = read_listed(alloc, text)?;
-    let run = made_run(rt, alloc, &program, schedule, gate)?;
-    let notes = notes_on_run(alloc, quiet, &program, defs, &run.record, &run.told)?;
+    let run = made_run(rt, alloc, &program, schedule, gate, progress)?;
+    let notes = notes_on_run(
+        alloc,
+        quiet,
+        &program,
+        defs,
+        &run.record,
+        &run.told,
+        progress,
+    )?;
     Ok(NotedRun {
         record: run.record,
         notes,
@@ -102,6 +114,7 @@ pub(crate) fn made_run<R: Threads + Wait + Sync, G: Gate>(
     program: &Program,
     schedule: Schedule,
     gate: &G,
+    progress: &mut dyn Progress,
 ) -> Result<MadeRun, RunFault>
     ensures run { IfOk result (λ r. IsRunOf program.now r.record) }
     ensures scheduled { IfOk result (λ r. IsScheduled program.now schedule r.record) }
@@ -123,7 +136,7 @@ pub(crate) fn made_run<R: Threads + Wait + Sync, G: Gate>(
             seed,
             depth,
         } => {
-            let record = drawn(alloc, program, workers, seed, depth)?;
+            let record = drawn(alloc, program, workers, seed, depth, progress)?;
             let told = Vec::new(alloc);
             Ok(MadeRun { record, told })
         }
@@ -137,12 +150,13 @@ pub(crate) fn recorded<R: Threads + Wait + Sync, G: Gate>(
     program: &Program,
     schedule: Schedule,
     gate: &G,
+    progress: &mut dyn Progress,
 ) -> Result<Record, RunFault>
     ensures run { IfOk result (λ r. IsRunOf program.now r) }
     ensures scheduled { IfOk result (λ r. IsScheduled program.now schedule r) }
     ensures failed { IfErr result (Fails G.always_on program.now schedule) }
 {
-    let run = made_run(rt, alloc, program, schedule, gate)?;
+    let run = made_run(rt, alloc, program, schedule, gate, progress)?;
     Ok(run.record)
 }
 
@@ -153,12 +167,13 @@ fn drawn(
     workers: Runners,
     seed: u64,
     depth: Option<Depth>,
+    progress: &mut dyn Progress,
 ) -> Result<Record, RunFault>
     ensures run { IfOk result (λ r. IsRunOf program.now r) }
     ensures drawn { IfOk result (λ r. IsDrawnBy program.now workers seed depth r) }
     ensures failed { IfErr result (FailsDrawn program.now workers seed depth) }
 {
-    match draw_at_depth(alloc, program, workers.number(), seed, depth) {
+    match draw_at_depth(alloc, program, workers.number(), seed, depth, progress) {
         Ok(record) => Ok(record),
         Err(DrawFault::Behaviours) => Err(RunFault::Behaviours),
         Err(DrawFault::Memory) => Err(RunFault::Memory),
@@ -172,6 +187,7 @@ fn draw_at_depth(
     workers: u32,
     seed: u64,
     depth: Option<Depth>,
+    progress: &mut dyn Progress,
 ) -> Result<Record, DrawFault>
     requires { (1 ≤ workers) × (workers ≤ MOST_RUNNERS) }
     ensures run { IfOk result (λ r. IsRunOf program.now r) }
@@ -179,7 +195,7 @@ fn draw_at_depth(
     ensures failed { IfErr result (IsDrawFault program.now workers seed depth) }
 {
     let compiled = CompiledProgram::new(alloc, program)?;
-    let way = way_of(alloc, &compiled, workers, depth)?;
-    let drawn = draw(alloc, &compiled, workers, way, seed)?;
+    let way = way_of(alloc, &compiled, workers, depth, progress)?;
+    let drawn = draw(alloc, &compiled, workers, way, seed, progress)?;
     Ok(drawn.record)
 }

@@ -10,10 +10,11 @@ ghost use Rattle.boc_commands.specs.Commands.{AnswersInput, Leaves, CountsSource
 use crate::fault::Fault;
 use boc_plans::sharing::Sharing;
 use boc_plans::sweep::Sweep;
+use boc_progress::Progress;
 use boc_record::read_counted;
 use boc_report::write_sweep;
 use boc_text::{Sink, Source};
-use boc_whatif::{Progress, WhatIf};
+use boc_whatif::WhatIf;
 use std::alloc::{AllocError, Global};
 use std::thread::Threads;
 
@@ -25,12 +26,12 @@ use std::thread::Threads;
 /// A text is refused at its first faulty line, and only where it is no record's. Nothing is written unless
 /// the whole answer stands. After a failing write a beginning of it went out. The ends are found in threads, where there
 /// are rows enough to be worth them; the ends of greedy plans take long, and `progress` is told how many are found.
-pub fn sweep_cmd<R: Threads + Sync, P: Progress, S: Source, W: Sink>(
+pub fn sweep_cmd<R: Threads + Sync, S: Source, W: Sink>(
     rt: &R,
     alloc: Global,
     over: &Sweep,
     sharing: Sharing,
-    progress: &mut P,
+    progress: &mut dyn Progress,
     source: &mut S,
     sink: &mut W,
 ) -> Result<(), Fault>
@@ -60,13 +61,13 @@ pub(crate) fn first_number(over: &Sweep) -> u32
 }
 
 /// The ends of plans in which each row, each of so many cowns or each spawn in turn is changed.
-pub(crate) fn ends_of<R: Threads + Sync, P: Progress>(
+pub(crate) fn ends_of<R: Threads + Sync>(
     rt: &R,
     alloc: Global,
     over: &Sweep,
     count: u32,
     question: &WhatIf,
-    progress: &mut P,
+    progress: &mut dyn Progress,
 ) -> Result<Vec<u64>, AllocError>
     requires { count ≤ MOST_COWNS }
     ensures swept { IfOk result (λ ends. AreSwept (seen question.now.sharing question.now.rows) count over.now ends.items) }

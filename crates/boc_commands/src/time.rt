@@ -11,6 +11,7 @@ use crate::report::report_on;
 use crate::run::noted_run;
 use crate::values::MOST_TAKEN;
 use boc_plans::sharing::Sharing;
+use boc_progress::Progress;
 use boc_runs::rows::Rows;
 use boc_text::{Sink, Source, read_all};
 use boc_words::{AskedPlans, Schedule};
@@ -27,7 +28,7 @@ use std::thread::Threads;
 /// spawn points and cown orders, each plan that keeps them starts no row earlier and ends no sooner, its end, the span and the
 /// ticks of the chain are one number, and the greedy plan for p workers ends within the work divided by p, and the span.
 ///
-/// What is refused, what is noted and what is written is as for `run`.
+/// What is refused, what is noted, what is written and what `progress` receives is as for `run`.
 pub fn time_cmd<R: Threads + Wait + Sync, G: Gate, S: Source, W: Sink>(
     rt: &R,
     alloc: Global,
@@ -36,6 +37,7 @@ pub fn time_cmd<R: Threads + Wait + Sync, G: Gate, S: Source, W: Sink>(
     sharing: Sharing,
     quiet: bool,
     gate: &G,
+    progress: &mut dyn Progress,
     notes: &mut Vec<u8>,
     source: &mut S,
     sink: &mut W,
@@ -49,7 +51,7 @@ pub fn time_cmd<R: Threads + Wait + Sync, G: Gate, S: Source, W: Sink>(
     ensures sink { CountsSink result (W.failures sink.old) (W.failures sink.new) }
 {
     let text = read_all(alloc, source, MOST_TAKEN)?;
-    let noted = noted_run(rt, alloc, &text, schedule, quiet, gate)?;
+    let noted = noted_run(rt, alloc, &text, schedule, quiet, gate, progress)?;
     *notes = noted.notes;
     true_report(alloc, plans, noted.record.into_rows(), sharing, sink)
 }

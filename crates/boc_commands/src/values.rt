@@ -15,6 +15,7 @@ use boc_eval::{Faulted, serial_end};
 use boc_notes::notes_on_serial;
 use boc_program::limits::MOST_TEXT;
 use boc_program::program::Program;
+use boc_progress::Progress;
 use boc_reader::{DefListing, read_listed};
 use boc_text::{Sink, Source, put_out, read_all};
 use std::alloc::{AllocError, Global};
@@ -27,10 +28,11 @@ pub(crate) const MOST_TAKEN: usize = MOST_TEXT + 1;
 ///
 /// A program text is refused only where it spells no program, for what is wrong with it and where, and a run only where the
 /// program has too many behaviours. Nothing is written unless the whole output stands. After a failing write a beginning of it
-/// went out.
+/// went out. `progress` receives how many behaviours have ended.
 pub fn values_cmd<S: Source, W: Sink>(
     alloc: Global,
     quiet: bool,
+    progress: &mut dyn Progress,
     notes: &mut Vec<u8>,
     source: &mut S,
     sink: &mut W,
@@ -44,7 +46,7 @@ pub fn values_cmd<S: Source, W: Sink>(
     ensures sink { CountsSink result (W.failures sink.old) (W.failures sink.new) }
 {
     let text = read_all(alloc, source, MOST_TAKEN)?;
-    let told = values_told(alloc, quiet, &text)?;
+    let told = values_told(alloc, quiet, &text, progress)?;
     let Told {
         text: answer,
         notes: noted,
@@ -55,11 +57,16 @@ pub fn values_cmd<S: Source, W: Sink>(
 }
 
 // The text of the values of the program that a text spells, and the notes on its serial run.
-fn values_told(alloc: Global, quiet: bool, text: &[u8]) -> Result<Told, Fault>
+fn values_told(
+    alloc: Global,
+    quiet: bool,
+    text: &[u8],
+    progress: &mut dyn Progress,
+) -> Result<Told, Fault>
     ensures { MatchResult result (λ told. TellsValues quiet told.notes.items text.now told.text.items × (length text.now ≤ MOST_TEXT)) (IsOfText text.now) }
 {
     let (program, defs) = read_listed(alloc, text)?;
-    let end = serial_end(alloc, &program)?;
+    let end = serial_end(alloc, &program, progress)?;
     let notes = serial_notes(alloc, quiet, &program, defs, &end.faulted)?;
     let text = values_text(alloc, program.cowns.as_slice(), &end.values)?;
     Ok(Told { text, notes })

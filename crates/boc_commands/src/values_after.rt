@@ -16,6 +16,7 @@ use crate::values::MOST_TAKEN;
 use boc_ends_report::values_text;
 use boc_follow::follow_record;
 use boc_program::program::Program;
+use boc_progress::Progress;
 use boc_reader::{DefListing, read_listed};
 use boc_registers::compiled::CompiledProgram;
 use boc_runs::record::Record;
@@ -27,11 +28,12 @@ use std::alloc::Global;
 ///
 /// A program text is refused only where it spells no program, for what is wrong with it and where; then the file, at its first faulty line, where
 /// it is no record's text; and then a record that is that of no run of the program, for the first line of its text that strays from it. Nothing is
-/// written unless the whole output stands. After a failing write a beginning of it went out.
+/// written unless the whole output stands. After a failing write a beginning of it went out. `progress` receives how many events are followed.
 pub fn values_after_cmd<S: Source, W: Sink>(
     alloc: Global,
     record_text: Vec<u8>,
     quiet: bool,
+    progress: &mut dyn Progress,
     notes: &mut Vec<u8>,
     source: &mut S,
     sink: &mut W,
@@ -45,7 +47,7 @@ pub fn values_after_cmd<S: Source, W: Sink>(
     ensures sink { CountsSink result (W.failures sink.old) (W.failures sink.new) }
 {
     let text = read_all(alloc, source, MOST_TAKEN)?;
-    let told = values_told(alloc, quiet, &text, record_text)?;
+    let told = values_told(alloc, quiet, &text, record_text, progress)?;
     let Told {
         text: answer,
         notes: noted,
@@ -56,14 +58,20 @@ pub fn values_after_cmd<S: Source, W: Sink>(
 }
 
 // The text of the values with which the run ended that a file tells, of the program that a text spells, and the notes on that run.
-fn values_told(alloc: Global, quiet: bool, text: &[u8], record_text: Vec<u8>) -> Result<Told, Fault>
+fn values_told(
+    alloc: Global,
+    quiet: bool,
+    text: &[u8],
+    record_text: Vec<u8>,
+    progress: &mut dyn Progress,
+) -> Result<Told, Fault>
     ensures { MatchResult result
         (λ told. TellsValuesAfter record_text.items quiet told.notes.items text.now told.text.items × (length text.now ≤ MOST_TEXT))
         (IsOfValuesAfter record_text.items text.now) }
 {
     let (program, defs) = read_listed(alloc, text)?;
     let recorded = record_beside(alloc, record_text)?;
-    values_of_run(alloc, quiet, &program, defs, &recorded)
+    values_of_run(alloc, quiet, &program, defs, &recorded, progress)
 }
 
 // The text of the values with which a run of a program with these defs ended, and the notes on it.
@@ -73,6 +81,7 @@ fn values_of_run(
     program: &Program,
     defs: Vec<DefListing>,
     recorded: &Record,
+    progress: &mut dyn Progress,
 ) -> Result<Told, Fault>
     ensures { MatchResult result
         (λ told. IsRecordOf program.now recorded.now
@@ -82,10 +91,10 @@ fn values_of_run(
         (IsOfStrayFile program.now recorded.now) }
 {
     let compiled = CompiledProgram::new(alloc, program)?;
-    match follow_record(alloc, &compiled, recorded) {
+    match follow_record(alloc, &compiled, recorded, progress) {
         Ok(run) => {
             let text = values_text(alloc, program.cowns.as_slice(), run.values())?;
-            let notes = notes_on_run(alloc, quiet, program, defs, recorded, &[])?;
+            let notes = notes_on_run(alloc, quiet, program, defs, recorded, &[], progress)?;
             Ok(Told { text, notes })
         }
         Err(fault) => Err(of_stray_beside(fault)),

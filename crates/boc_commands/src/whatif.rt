@@ -21,6 +21,7 @@ use crate::report::report_after;
 use boc_names::{Names, numbers_as_names};
 use boc_plans::sharing::Sharing;
 use boc_plans::workers::Workers;
+use boc_progress::Progress;
 use boc_record::read_counted;
 use boc_runs::rows::Rows;
 use boc_text::{Sink, Source, put_out};
@@ -262,12 +263,13 @@ fn numbered_whatif<S: Source, W: Sink>(
 ///
 /// A text is refused at its first faulty line, and only where it is no record's, and a file as its kind is. Of what is asked for the first cown is refused that
 /// the record doesn't have, and else the first edit that the rows can't take, as those before it have made them, or that means none of them. Nothing is
-/// written unless the whole answer stands. After a failing write a beginning of it went out.
+/// written unless the whole answer stands. After a failing write a beginning of it went out. `progress` receives how many events are followed.
 pub fn whatif_cmd<S: Source, W: Sink>(
     alloc: Global,
     asked: &Supposed<'_>,
     file: &Option<NamesFrom>,
     bytes: &[u8],
+    progress: &mut dyn Progress,
     source: &mut S,
     sink: &mut W,
 ) -> Result<(), Fault>
@@ -282,6 +284,6 @@ pub fn whatif_cmd<S: Source, W: Sink>(
     if file.is_none() && asked.names_no_row() {
         return numbered_whatif(alloc, asked, source, sink);
     }
-    let run = named_record(alloc, source, file, bytes)?;
+    let run = named_record(alloc, source, file, bytes, progress)?;
     whatif_report(alloc, asked, run, sink)
 }

@@ -13,47 +13,46 @@ use crate::notes::{Told, notes_on};
 use boc_greedy::greedy;
 use boc_plans::sharing::Sharing;
 use boc_plans::workers::Workers;
+use boc_progress::Progress;
 use boc_runs::rows::Rows;
 use boc_text::{Sink, Source, put_out};
 use boc_why::why_of;
 use boc_why_report::{put_greedy_line, why_text};
+use boc_words::{AskedWhy, RunFile};
 use boc_workers::Gate;
 use std::alloc::{AllocError, Global};
 use std::sync::Wait;
 use std::thread::Threads;
 
 /// Reads a program, which it runs, or the text of a record, as its first word tells, and writes why the rows of the run take as long as they do: the chain that
-/// holds them back, its ticks by def and by link, what would bring the end forward, and the least that any order of the cowns could end at. Plans see the
-/// rows as they share cowns in this way. Each row of the chain stands on a line of its own where all are asked for. A last line tells of the greedy plan for
-/// so many workers, where a number is given. The origin says by how many threads a program is run, and which file stands beside it. The notes are put in
-/// place of others, unless quiet is wanted.
+/// holds them back, its ticks by def and by link, what would bring the end forward, and a lower bound for any order on the cowns. A last line tells of the
+/// greedy plan for so many workers, if that is asked for. `bytes` are those of the file beside the input, if there is one. The notes replace those in `notes`.
 ///
 /// A program is refused as by `run`, a record as by `profile`, and a file as its kind is. Nothing is written unless the whole answer stands. After a failing
-/// write a beginning of it went out. Plans are made in threads. The text of a record is taken into memory as a whole.
+/// write a beginning of it went out. Plans are made in threads. The text of a record is taken into memory as a whole. `progress` receives how far
+/// a draw or the following of a record is.
 pub fn why_cmd<R: Threads + Wait + Sync, G: Gate, S: Source, W: Sink>(
     rt: &R,
     alloc: Global,
-    origin: Origin<'_>,
-    workers: Option<Workers>,
-    sharing: Sharing,
-    all: bool,
-    quiet: bool,
+    asked: AskedWhy,
+    file: &Option<RunFile>,
+    bytes: Vec<u8>,
     gate: &G,
+    progress: &mut dyn Progress,
     notes: &mut Vec<u8>,
     source: &mut S,
     sink: &mut W,
 ) -> Result<(), Fault>
     requires source { S.failures source.old < u64.MAX }
     requires sink { W.failures sink.old < u64.MAX }
-    ensures written { Leaves (AnswersInput (TellsWhy origin.entry.schedule sharing workers all quiet origin.entry.file.now origin.entry.bytes.items
-        notes.new.items) (S.remaining source.old) (S.remaining source.new)) result (W.written sink.old) (W.written sink.new) }
-    ensures refused { RefusesNamedRun G.always_on origin.entry.schedule origin.entry.file.now origin.entry.bytes.items result
-        (S.remaining source.old) (S.remaining source.new) }
+    ensures written { Leaves (AnswersInput (TellsWhy asked file.now bytes.items notes.new.items) (S.remaining source.old) (S.remaining source.new)) result
+        (W.written sink.old) (W.written sink.new) }
+    ensures refused { RefusesNamedRun G.always_on asked.schedule file.now bytes.items result (S.remaining source.old) (S.remaining source.new) }
     ensures source { CountsSource result (S.failures source.old) (S.failures source.new) }
     ensures sink { CountsSink result (W.failures sink.old) (W.failures sink.new) }
 {
     let text = taken(alloc, source)?;
-    let told = why_told(rt, alloc, text, origin, workers, sharing, all, quiet, gate)?;
+    let told = why_told(rt, alloc, text, asked, file, bytes, gate, progress)?;
     let Told {
         text: answer,
         notes: noted,
@@ -68,21 +67,24 @@ fn why_told<R: Threads + Wait + Sync, G: Gate>(
     rt: &R,
     alloc: Global,
     text: Vec<u8>,
-    origin: Origin<'_>,
-    workers: Option<Workers>,
-    sharing: Sharing,
-    all: bool,
-    quiet: bool,
+    asked: AskedWhy,
+    file: &Option<RunFile>,
+    bytes: Vec<u8>,
     gate: &G,
+    progress: &mut dyn Progress,
 ) -> Result<Told, Fault>
     ensures { MatchResult result
-        (λ told. TellsWhy origin.entry.schedule sharing workers all quiet origin.entry.file.now origin.entry.bytes.items told.notes.items
-        text.items told.text.items × IsShort text.items)
-        (IsOfNamedRun G.always_on origin.entry.schedule origin.entry.file.now origin.entry.bytes.items text.items) }
+        (λ told. TellsWhy asked file.now bytes.items told.notes.items text.items told.text.items × IsShort text.items)
+        (IsOfNamedRun G.always_on asked.schedule file.now bytes.items text.items) }
 {
-    let run = named_run(rt, alloc, text, origin, gate)?;
-    let notes = notes_on(alloc, quiet, &run.rows, &run.names.rows)?;
-    let text = told(rt, alloc, &run, workers, sharing, all)?;
+    let origin = Origin {
+        schedule: asked.schedule,
+        file,
+        bytes,
+    };
+    let run = named_run(rt, alloc, text, origin, gate, progress)?;
+    let notes = notes_on(alloc, asked.quiet, &run.rows, &run.names.rows)?;
+    let text = told(rt, alloc, &run, asked)?;
     Ok(Told { text, notes })
 }
 
@@ -91,17 +93,16 @@ fn told<R: Threads + Sync>(
     rt: &R,
     alloc: Global,
     run: &NamedRun,
-    workers: Option<Workers>,
-    sharing: Sharing,
-    all: bool,
+    asked: AskedWhy,
 ) -> Result<Vec<u8>, AllocError>
     requires { AreFew run.now.rows run.now.names }
-    ensures { IfOk result (λ text. IsTold run.now.rows run.now.names sharing workers all text.items) }
+    ensures { IfOk result (λ text. IsTold run.now.rows run.now.names asked text.items) }
 {
     let names = &run.names;
+    let sharing = asked.sharing;
     let why = why_of(rt, alloc, &run.rows, sharing, &names.defs, &names.families)?;
-    let mut text = why_text(alloc, names, sharing, all, &why)?;
-    put_asked_line(alloc, &mut text, &run.rows, sharing, workers)?;
+    let mut text = why_text(alloc, names, sharing, asked.all, &why)?;
+    put_asked_line(alloc, &mut text, &run.rows, sharing, asked.workers)?;
     Ok(text)
 }
 

@@ -11,10 +11,10 @@ pub returns-in-Curve-clause-written : goal.returns-in-Curve-clause-written
 returns-in-Curve-clause-written g c = search rules
 
 pub returns-in-Why-clause-written : goal.returns-in-Why-clause-written
-returns-in-Why-clause-written g c = search rules
+returns-in-Why-clause-written g c = rw c.in-Why.is c.why_cmd.ensures.written
 
 pub returns-in-Cowns-clause-written : goal.returns-in-Cowns-clause-written
-returns-in-Cowns-clause-written g c = search rules
+returns-in-Cowns-clause-written g c = rw c.in-Cowns.is c.cowns_cmd.ensures.written
 
 pub returns-in-Outcomes-clause-written : goal.returns-in-Outcomes-clause-written
 returns-in-Outcomes-clause-written g c = search rules

@@ -11,8 +11,7 @@ returns-in_err-told-clause-refused g c =
 pub returns-clause-written : goal.returns-clause-written
 returns-clause-written g c = (
   c.deref.result.now,
-  answers_taken (TellsCowns c.args.origin.schedule c.args.sharing c.args.top c.args.quiet c.args.origin.file.now c.args.origin.bytes.items
-      c.in_ok-told.told.notes.items) _ _
+  answers_taken (TellsCowns c.args.asked c.args.file.now c.args.bytes.items c.in_ok-told.told.notes.items) _ _
       c.in_ok-text.text.items c.in_ok-told.told.text.items c.deref.result.now c.in_ok-text.ensures.text c.in_ok-told.ensures.1 c.in_ok-told.ensures.0
       c.deref.ensures.value,
   c.in_ok-put_out.ensures.ok,
@@ -21,8 +20,7 @@ returns-clause-written g c = (
 pub returns-in_err-put_out-clause-written : goal.returns-in_err-put_out-clause-written
 returns-in_err-put_out-clause-written g c =
     stopped _ _ _ c.deref.result.now _ _ c.from_residual-in_err-put_out.ensures.1
-    (answers_taken (TellsCowns c.args.origin.schedule c.args.sharing c.args.top c.args.quiet c.args.origin.file.now c.args.origin.bytes.items
-    c.in_ok-told.told.notes.items) _ _
+    (answers_taken (TellsCowns c.args.asked c.args.file.now c.args.bytes.items c.in_ok-told.told.notes.items) _ _
     c.in_ok-text.text.items c.in_ok-told.told.text.items c.deref.result.now c.in_ok-text.ensures.text c.in_ok-told.ensures.1 c.in_ok-told.ensures.0
     c.deref.ensures.value)
     c.in_err-put_out.ensures.stopped

@@ -3,24 +3,32 @@ use Rattle.boc_runs.specs.declared.rows.Row.{Row}
 use Rattle.boc_names.specs.Names.{texts_of}
 use Rattle.boc_commands.specs.CownsAnswers.{AreTold}
 use Rattle.boc_commands.specs.Notes.{AreWanted, notes_of_rows}
+use Rattle.boc_commands.proofs.Passed.{passed_on}
+use Rattle.boc_commands.proofs.TakenRuns.{no_memory}
 use Rattle.boc_commands.proofs.cowns.cowns_told.Goals as goal
 
 pub returns : goal.returns
 returns g c =
     let has = c.in_ok-run.ensures.0 in
     let names = c.in_ok-run.run'.names in
-    let noted = subst (λ called. AreWanted c.args.quiet (λ told. told ≡ notes_of_rows (texts_of called) has.recorded.rows) c.in_ok-notes.notes.items)
+    let noted = subst (λ called. AreWanted c.args.asked.quiet (λ told. told ≡ notes_of_rows (texts_of called) has.recorded.rows) c.in_ok-notes.notes.items)
     c.deref.ensures.value
-    (subst (λ (rows : List Row). AreWanted c.args.quiet (λ told. told ≡ notes_of_rows (texts_of c.deref.result.now) rows) c.in_ok-notes.notes.items)
+    (subst (λ (rows : List Row). AreWanted c.args.asked.quiet (λ told. told ≡ notes_of_rows (texts_of c.deref.result.now) rows) c.in_ok-notes.notes.items)
     has.rows_are c.in_ok-notes.ensures) in (
       record {
         answer = record {
           recorded = has.recorded;
           names = names;
           named = has.named;
-          told = subst (λ (rows : List Row). AreTold rows names c.args.sharing c.args.top c.in_ok-text.text.items) has.rows_are c.in_ok-text.ensures;
+          told = subst (λ (rows : List Row). AreTold rows names c.args.asked c.in_ok-text.text.items) has.rows_are c.in_ok-text.ensures;
         };
         noted = noted;
       },
       c.in_ok-run.ensures.1,
     )
+
+pub returns-in_err-notes : goal.returns-in_err-notes
+returns-in_err-notes g c = passed_on _ _ _ _ c.from_residual-in_err-notes.ensures.1 (no_memory _ _ _ _ _)
+
+pub returns-in_err-text : goal.returns-in_err-text
+returns-in_err-text g c = passed_on _ _ _ _ c.from_residual-in_err-text.ensures.1 (no_memory _ _ _ _ _)

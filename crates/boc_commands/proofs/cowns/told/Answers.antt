@@ -7,7 +7,7 @@ pub returns : goal.returns
 returns g c =
     IfOk-weaker c.cowns_text.result _ _ (λ text is. record {
       hot = c.in_ok-hot.hot;
-      is_hot = subst (λ (l : List ℕ). IsHotCowns c.args.run.now.rows c.args.sharing (length l) c.in_ok-hot.hot) c.deref-families.ensures.value
+      is_hot = subst (λ (l : List ℕ). IsHotCowns c.args.run.now.rows c.args.asked.sharing (length l) c.in_ok-hot.hot) c.deref-families.ensures.value
           c.in_ok-hot.ensures.hot;
       told = is;
     }) c.cowns_text.ensures

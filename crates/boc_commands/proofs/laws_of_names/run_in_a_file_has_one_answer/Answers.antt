@@ -6,10 +6,10 @@ use Rattle.boc_commands.proofs.laws_of_names.run_in_a_file_has_one_answer.Goals 
 
 pub returns : goal.returns
 returns c = record {
-  why = λ schedule sharing workers all quiet path bytes input notes output others other a b.
-      one_why_answer schedule sharing workers all quiet (Some (run_files.Record path)) bytes input notes output others other a b
+  why = λ asked path bytes input notes output others other a b.
+      one_why_answer asked (Some (run_files.Record path)) bytes input notes output others other a b
       (one_record bytes a.answer.recorded b.answer.recorded a.answer.named.text_of b.answer.named.text_of);
-  cowns = λ schedule sharing top quiet path bytes input notes output others other a b.
-      one_cowns_answer schedule sharing top quiet (Some (run_files.Record path)) bytes input notes output others other a b
+  cowns = λ asked path bytes input notes output others other a b.
+      one_cowns_answer asked (Some (run_files.Record path)) bytes input notes output others other a b
       (one_record bytes a.answer.recorded b.answer.recorded a.answer.named.text_of b.answer.named.text_of);
 }

@@ -8,18 +8,18 @@ use Rattle.boc_commands.proofs.RunNames.{named_few}
 use Rattle.boc_commands.proofs.named_run.given_run.Goals as goal
 
 pub returns-in_err-recorded : goal.returns-in_err-recorded
-returns-in_err-recorded c =
+returns-in_err-recorded g c =
     passed_on _ (IsOfGiven c.args.text.now c.args.bytes.items) _ _ c.from_residual-in_err-recorded.ensures.1
     (of_given_file c.args.text.now c.args.bytes.items c.in_ok-program.program c.in_err-recorded.field-0.0 c.in_ok-program.ensures.0 c.in_err-recorded.ensures)
 
 pub returns-in-Err : goal.returns-in-Err
-returns-in-Err c =
+returns-in-Err g c =
     subst (IsOfGiven c.args.text.now c.args.bytes.items) (sym c.of_stray_beside.ensures)
     (of_given_stray c.args.text.now c.args.bytes.items c.in_ok-program.program c.in_ok-recorded.recorded c.in-Err.fault c.in_ok-program.ensures.0
     c.in_ok-recorded.ensures c.in-Err.ensures)
 
 pub returns : goal.returns
-returns c =
+returns g c =
     let spelled = c.in_ok-program.ensures.0 in
     let shape = subst IsRows c.into_rows-rows.ensures.value c.as_slice-shape.ensures.shape in
     let few = named_few c.in_ok-program.program c.in_ok-recorded.recorded _ c.in-Ok.names c.in-Ok.ensures.0 c.into_rows-rows.ensures.run shape

@@ -7,7 +7,7 @@ use Rattle.boc_commands.proofs.ToldNames.{told_notes}
 use Rattle.boc_commands.proofs.notes.notes_on_faulted.Goals as goal
 
 pub returns-in-Some : goal.returns-in-Some
-returns-in-Some c =
+returns-in-Some g c =
     let same_rows : c.as_slice-rows.result.now ≡ c.args.recorded.now.rows = search rules in
     let tells = subst (λ (o : Option (Vec ℕ Global)). MatchOption o (LacksName c.deref.result.now (first_noted c.args.faulted.now))
     (λ text. (called : List Text) → AreCalled called c.deref.result.now
@@ -17,7 +17,7 @@ returns-in-Some c =
     same_rows tells
 
 pub returns : goal.returns
-returns c =
+returns g c =
     let same_rows : c.as_slice-rows.result.now ≡ c.args.recorded.now.rows = search rules in
     let names = ap texts_of c.deref-2.ensures.value ∙ c.in_ok-names.ensures.rows in
     IfOk-weaker c.notes_on_rows.result _ _ (λ notes is. is ∙ (λ i. notes_text (map (note_of_row (names i) (same_rows i)) c.args.faulted.now)))

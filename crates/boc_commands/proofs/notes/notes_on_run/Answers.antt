@@ -6,7 +6,7 @@ use Rattle.boc_commands.proofs.Noting.{loud}
 use Rattle.boc_commands.proofs.notes.notes_on_run.Goals as goal
 
 pub returns : goal.returns
-returns c =
+returns g c =
     let defs = c.deref.ensures.value ∙ c.in_ok-defs.ensures in
     let same_rows : c.as_slice.result.now ≡ c.args.recorded.now.rows = search rules in
     let faulted = c.deref-2.ensures.value ∙ c.in_ok-faulted.ensures ∙ ap faulted_rows same_rows in

@@ -8,19 +8,19 @@ use Rattle.boc_commands.proofs.Seeding.{no_memory, passed_fault}
 use Rattle.boc_commands.proofs.run.draw_at_depth.Goals as goal
 
 pub returns-in_err-compiled-clause-failed : goal.returns-in_err-compiled-clause-failed
-returns-in_err-compiled-clause-failed c =
+returns-in_err-compiled-clause-failed g c =
     passed_fault (IsDrawFault c.args.program.now c.args.workers c.args.seed c.args.depth) c.from_residual.result faults.Memory c.from_residual.ensures.1
     (no_memory c.args.program.now c.args.workers c.args.seed c.args.depth)
 
 pub returns-in_err-way-clause-failed : goal.returns-in_err-way-clause-failed
-returns-in_err-way-clause-failed c =
+returns-in_err-way-clause-failed g c =
     passed_fault (IsDrawFault c.args.program.now c.args.workers c.args.seed c.args.depth) c.from_residual-in_err-way.result c.in_err-way.field-0.0
     c.from_residual-in_err-way.ensures.1
     (counting (subst (λ (p : Program). AnswersWay p c.args.workers c.args.depth (Err c.in_err-way.field-0.0)) c.in_ok-compiled.ensures
     c.in_err-way.ensures))
 
 pub returns-in_err-drawn-clause-failed : goal.returns-in_err-drawn-clause-failed
-returns-in_err-drawn-clause-failed c =
+returns-in_err-drawn-clause-failed g c =
     passed_fault (IsDrawFault c.args.program.now c.args.workers c.args.seed c.args.depth) c.from_residual-in_err-drawn.result c.in_err-drawn.field-0.0
     c.from_residual-in_err-drawn.ensures.1
     (drawing c.in_ok-way.way
@@ -29,7 +29,7 @@ returns-in_err-drawn-clause-failed c =
     c.in_err-drawn.ensures))
 
 pub returns-clause-drawn : goal.returns-clause-drawn
-returns-clause-drawn c = record {
+returns-clause-drawn g c = record {
   way = c.in_ok-way.way;
   is_way = subst (λ (p : Program). AnswersWay p c.args.workers c.args.depth (Ok c.in_ok-way.way)) c.in_ok-compiled.ensures c.in_ok-way.ensures;
   drawn = c.in_ok-drawn.drawn;

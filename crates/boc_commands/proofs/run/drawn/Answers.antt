@@ -5,11 +5,11 @@ use Rattle.boc_commands.specs.Schedules.{IsDrawFault, IsDrawnBy}
 use Rattle.boc_commands.proofs.run.drawn.Goals as goal
 
 pub returns-in-Ok-clause-drawn : goal.returns-in-Ok-clause-drawn
-returns-in-Ok-clause-drawn c =
+returns-in-Ok-clause-drawn g c =
     subst (λ (n : ℕ). IsDrawnBy c.args.program.now n c.args.seed c.args.depth c.in-Ok.record) c.number.ensures.value c.in-Ok.ensures.drawn
 
 pub returns-in-Err-Behaviours-clause-failed : goal.returns-in-Err-Behaviours-clause-failed
-returns-in-Err-Behaviours-clause-failed c =
+returns-in-Err-Behaviours-clause-failed g c =
     subst (λ (n : ℕ). IsDrawFault c.args.program.now n c.args.seed c.args.depth faults.Behaviours) c.number.ensures.value
     (subst (λ (f : DrawFault). IsDrawFault c.args.program.now c.number.result c.args.seed c.args.depth f) c.in-Err-Behaviours.field-0-is
     c.in-Err-Behaviours.ensures.failed)

@@ -18,7 +18,7 @@ use Rattle.boc_commands.proofs.Passed.{passed_on, refused_text}
 use Rattle.boc_commands.proofs.values.values_told.Goals as goal
 
 pub returns : goal.returns
-returns c =
+returns g c =
     let spelled : Spells c.args.text.now c.in_ok-program.program = c.in_ok-program.ensures.0 in
     let answer : IsValuesAnswer c.args.text.now c.in_ok-text.text.items = record {
       program = c.in_ok-program.program;
@@ -40,7 +40,7 @@ returns c =
     }) c.in_ok-notes.ensures in ((answer, noted), spelled.short)
 
 pub returns-in_err-program : goal.returns-in_err-program
-returns-in_err-program c =
+returns-in_err-program g c =
     passed_on _ (IsOfText c.args.text.now) _ _ c.from_residual.ensures.1
     (refused_text (IsOfText c.args.text.now) c.args.text.now c.in_err-program.field-0.0 tt (λ wrong. wrong) c.in_err-program.ensures)
 
@@ -51,7 +51,7 @@ refused text program run serial.Memory spells is many = tt
 refused text program run serial.Behaviours spells is many = record { program = program; spells = spells; many = many is }
 
 pub returns-in_err-end : goal.returns-in_err-end
-returns-in_err-end c =
+returns-in_err-end g c =
     passed_on _ (IsOfText c.args.text.now) _ _ c.from_residual-in_err-end.ensures.1
     (refused c.args.text.now c.in_ok-program.program (Err c.in_err-end.field-0.0) c.in_err-end.field-0.0 c.in_ok-program.ensures.0 refl
     c.in_err-end.ensures.behaviours)

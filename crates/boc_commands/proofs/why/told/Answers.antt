@@ -8,9 +8,9 @@ why_text-requires-clause-adds_up g c = c.in_ok-why.ensures.why.profile.weight
 pub returns : goal.returns
 returns g c = record {
   why = c.in_ok-why.why;
-  is_why = subst (λ (families : List ℕ). IsWhy c.args.run.now.rows c.args.sharing c.args.run.now.names.defs.items families (length families) c.in_ok-why.why)
-      c.deref-2.ensures.value
-      (subst (λ (defs : List ℕ). IsWhy c.args.run.now.rows c.args.sharing defs c.deref-2.result.now (length c.deref-2.result.now) c.in_ok-why.why)
+  is_why = subst (λ (families : List ℕ). IsWhy c.args.run.now.rows c.args.asked.sharing c.args.run.now.names.defs.items families (length families)
+      c.in_ok-why.why) c.deref-2.ensures.value
+      (subst (λ (defs : List ℕ). IsWhy c.args.run.now.rows c.args.asked.sharing defs c.deref-2.result.now (length c.deref-2.result.now) c.in_ok-why.why)
       c.deref.ensures.value c.in_ok-why.ensures.why);
   without_line = c.in_ok-text.text.items;
   told = c.in_ok-text.ensures;

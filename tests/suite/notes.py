@@ -70,6 +70,11 @@ MANY = b"cown a = 0; def f(n; x) { x = n / 0; } main { " + b"".join(b"when f(%d;
 MANY_NOTED = b"".join(b"boc: note: row %d, f(%d; a), ended by 2 ZeroDivisor at its tick 2\n" % (n + 1, n) for n in range(10)) \
     + b"boc: note: 2 more ended by a fault\n"
 
+# Forty behaviours, of which every third ends by a fault.
+THIRDS = b"cown a = 0; def f(n; x) { x = 1 / (n % 3); } main { let n = 0; repeat 40 { when f(n; a); n = n + 1; } }"
+THIRDS_NOTED = b"".join(b"boc: note: row %d, f(%d; a), ended by 2 ZeroDivisor at its tick 2\n" % (n + 1, n) for n in range(0, 30, 3)) \
+    + b"boc: note: 4 more ended by a fault\n"
+
 # Forty behaviours end by a fault, those that come first after the longest work, so that they end in another order than that of their rows.
 LATE = b"cown c[40] = 0; def f(n; x) { work (40 - n) * 5000; x = n / 0; } def g(n; ) { when f(n; c[n]); } main { " \
     + b"".join(b"when %s(%d; %s); " % ((b"f", n, b"c[%d]" % n) if n % 3 else (b"g", n, b"")) for n in range(40)) + b"}"
@@ -84,11 +89,11 @@ OF_PROGRAMS = ["values", "run", "time", "why", "cowns"]
 OF_RECORDS = ["profile", "why", "cowns"]
 
 # What is noted where words say how a program is run, and a record came in.
-NOT_RUN = b"boc: note: the input is a record, which is not run again: --workers and --seed say nothing of it\n"
+NOT_RUN = b"boc: note: the input is a record, which is not run again: --workers, --seed and --depth have no effect\n"
 
 # The same where a record stands beside the program, and where the words have one worker draw.
-OF_FILE = b"boc: note: the run is that of --record FILE, and the program is not run again: --workers and --seed say nothing of it\n"
-OF_ONE = b"boc: note: one worker leaves nothing to draw: --seed and --depth say nothing of it; give --workers at least 2\n"
+OF_FILE = b"boc: note: the run is that of --record FILE, and the program is not run again: --workers, --seed and --depth have no effect\n"
+OF_ONE = b"boc: note: one worker leaves nothing to draw: --seed and --depth have no effect; give --workers at least 2\n"
 
 # Words that say how a program is run, and what is noted where it is run by them.
 SCHEDULES = [
@@ -116,9 +121,9 @@ DRAWS = [
 
 
 def cases(program):
-    for name, text, noted in [("each fault", FAULTS, NOTED), ("main", MAIN, MAIN_NOTED), ("twelve", MANY, MANY_NOTED)]:
+    for name, text, noted in [("each fault", FAULTS, NOTED), ("main", MAIN, MAIN_NOTED), ("twelve", MANY, MANY_NOTED), ("thirds", THIRDS, THIRDS_NOTED)]:
         yield from of_program(program, name, text, noted)
-    for name, text in [("each fault", FAULTS), ("main", MAIN), ("twelve", MANY), ("late", LATE)]:
+    for name, text in [("each fault", FAULTS), ("main", MAIN), ("twelve", MANY), ("thirds", THIRDS), ("late", LATE)]:
         yield from of_runs(program, name, text)
     for command in OF_RECORDS:
         yield f"a record: {command}", fault_of_notes(program.run([command], RECORD), RECORD_NOTED)

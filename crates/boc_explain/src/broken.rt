@@ -1,12 +1,12 @@
 // Events that break a rule of runs: which one, by what.
 
-use crate::formed::put_reason;
-use crate::limits::{put_coarser_ticks, put_fewer_rows};
+use crate::formed::{column_of, put_reason};
+use crate::limits::{COARSER_TICKS, FEWER_ROWS};
+use crate::names::record_cowns;
 use crate::run::{Life, Row, Run, fields_of};
-use crate::said::{Part, Said};
 use boc_program::limits::{MOST_ROWS, MOST_TICKS};
 use boc_record::RecordFaultKind;
-use boc_text::read_number;
+use boc_said::said::{Part, Said};
 use std::alloc::{AllocError, Global};
 
 /// Tells which rule the event of a line breaks, by what.
@@ -22,14 +22,21 @@ pub(crate) fn put_broken(
         return Ok(());
     };
     let run = Run::before(alloc, text, number)?;
+    let faulty = match kind {
+        RecordFaultKind::NumberNotNext => 1,
+        RecordFaultKind::ParentNotRunning => 2,
+        RecordFaultKind::Offset => 3,
+        _ => 0,
+    };
+    said.place.1 = column_of(line, faulty);
     match (kind, fields.numbers.as_slice()) {
         (RecordFaultKind::NumberNotNext, [_, ..]) if run.rows.len() >= MOST_ROWS => {
             put_reason(
                 said,
                 line,
-                "a run has at most 65535 rows, and all of them stand before",
+                "a run has at most 65535 rows, and this is one more",
             )?;
-            put_fewer_rows(said)
+            said.words(FEWER_ROWS)
         }
         (RecordFaultKind::NumberNotNext, [_, ..]) => said.line(&[
             Part::Quote(line),
@@ -38,7 +45,7 @@ pub(crate) fn put_broken(
         ]),
         (RecordFaultKind::TooMany, _) => {
             put_reason(said, line, "a run has at most 65535 rows")?;
-            put_fewer_rows(said)
+            said.words(FEWER_ROWS)
         }
         (RecordFaultKind::ParentNotRunning, [_, parent, ..]) => {
             put_parent(said, line, &run, *parent)
@@ -47,7 +54,7 @@ pub(crate) fn put_broken(
             put_offset(said, line, &run, *parent, *offset)
         }
         (RecordFaultKind::Cowns, [_, _, _, cowns @ ..]) => {
-            put_cowns(said, line, &run, cowns, cowns_of_header(text))
+            put_cowns(said, line, &run, cowns, record_cowns(text).unwrap_or(0))
         }
         (RecordFaultKind::StartNotAllowed, [row]) => put_start(said, line, &run, *row),
         (RecordFaultKind::EndNotAllowed, [row, ticks, _, written @ ..]) => {
@@ -55,13 +62,6 @@ pub(crate) fn put_broken(
         }
         _ => Ok(()),
     }
-}
-
-// How many cowns the first line tells.
-fn cowns_of_header(text: &[u8]) -> u32 {
-    let header = text.split(|byte| *byte == b'\n').next().unwrap_or(b"");
-    let last = header.rsplit(|byte| *byte == b' ').next().unwrap_or(b"");
-    read_number(last).unwrap_or(0)
 }
 
 // Tells of a line what holds of a row.
@@ -81,7 +81,7 @@ fn put_row<'a>(
 
 fn put_parent(said: &mut Said, line: &[u8], run: &Run, parent: u32) -> Result<(), AllocError> {
     if run.rows.is_empty() {
-        return put_reason(said, line, "row 0 is main, whose parent is written 0");
+        return put_reason(said, line, "row 0 is main; its parent must be 0");
     }
     match run.row(parent) {
         None => put_row(said, line, parent, ", its parent, is not spawned yet"),
@@ -100,37 +100,30 @@ fn put_offset(
     offset: u32,
 ) -> Result<(), AllocError> {
     if run.rows.is_empty() {
-        return put_reason(said, line, "row 0 is main, whose offset is written 0");
+        return put_reason(said, line, "row 0 is main; its offset must be 0");
     }
     if offset > MOST_TICKS {
         put_reason(said, line, "an offset is at most 1000000")?;
-        return put_coarser_ticks(said);
+        return said.words(COARSER_TICKS);
     }
     match last_child(run, parent) {
         Some((child, MOST_TICKS)) => {
-            said.line(&[
-                Part::Quote(line),
-                Part::Words(": row "),
-                Part::Number(u64::from(parent)),
-                Part::Words(" spawned row "),
-                Part::Number(u64::from(child)),
-                Part::Words(" at its tick 1000000, the greatest offset, and spawns no more"),
-            ])?;
-            put_coarser_ticks(said)
+            let so = [
+                Part::Words(", the largest offset, and can spawn no more"),
+                Part::Words(""),
+            ];
+            put_spawned(said, line, [parent, child, MOST_TICKS], so)?;
+            said.words(COARSER_TICKS)
         }
-        Some((child, tick)) => said.line(&[
-            Part::Quote(line),
-            Part::Words(": row "),
-            Part::Number(u64::from(parent)),
-            Part::Words(" spawned row "),
-            Part::Number(u64::from(child)),
-            Part::Words(" at its tick "),
-            Part::Number(u64::from(tick)),
-            Part::Words(", so "),
-            Part::Number(u64::from(tick).saturating_add(1)),
-            Part::Words(" is the least"),
-        ]),
-        None => put_reason(said, line, "an offset is 1 at least"),
+        Some((child, tick)) => {
+            let least = u64::from(tick).saturating_add(1);
+            let so = [
+                Part::Words(", so the offset is at least "),
+                Part::Number(least),
+            ];
+            put_spawned(said, line, [parent, child, tick], so)
+        }
+        None => put_reason(said, line, "an offset is at least 1"),
     }
 }
 
@@ -155,12 +148,12 @@ fn put_cowns(
             Part::Quote(line),
             Part::Words(": there is no cown "),
             Part::Number(u64::from(*cown)),
-            Part::Words("; the first line tells of "),
+            Part::Words("; the first line declares "),
             Part::Many(u64::from(count), "cown"),
             Part::Words(", from 0 on"),
         ]);
     }
-    put_reason(said, line, "cowns rise, each above the one before it")
+    put_reason(said, line, "cowns must rise, each above the one before it")
 }
 
 fn put_start(said: &mut Said, line: &[u8], run: &Run, number: u32) -> Result<(), AllocError> {
@@ -203,26 +196,21 @@ fn put_in_way(
     cown: u32,
 ) -> Result<(), AllocError> {
     let row = Part::Number(u64::from(row));
-    let words = match life {
-        Life::Pending => [
-            Part::Words(" was spawned before row "),
+    let (begin, row, end) = match life {
+        Life::Pending => (
+            " was spawned before row ",
             row,
-            Part::Words(", hasn't started, and has cown "),
-        ],
-        _ => [
-            Part::Words(" is running, and has cown "),
-            Part::Words(""),
-            Part::Words(""),
-        ],
+            ", hasn't started, and has cown ",
+        ),
+        _ => (" is running, and has cown ", Part::Words(""), ""),
     };
-    let [first, second, third] = words;
     said.line(&[
         Part::Quote(line),
         Part::Words(": row "),
         Part::Number(other),
-        first,
-        second,
-        third,
+        Part::Words(begin),
+        row,
+        Part::Words(end),
         Part::Number(u64::from(cown)),
         Part::Words(" too"),
     ])
@@ -249,17 +237,19 @@ fn put_end(
             Part::Quote(line),
             Part::Words(": "),
             Part::Number(u64::from(ticks)),
-            Part::Words(" ticks, above 1000000"),
+            Part::Words(" ticks; a row takes at most 1000000"),
         ])?;
-        return put_coarser_ticks(said);
+        return said.words(COARSER_TICKS);
     }
     if let Some((child, tick)) = last_child(run, number)
         && tick > ticks
     {
-        return put_early(said, line, number, child, tick);
+        let least = Part::Many(u64::from(tick), "tick");
+        let so = [Part::Words(", so it takes at least "), least];
+        return put_spawned(said, line, [number, child, tick], so);
     }
     if ticks == 0 {
-        return put_reason(said, line, "0 ticks, and a row takes 1 at least");
+        return put_reason(said, line, "0 ticks; a row takes at least 1");
     }
     match written.iter().find(|cown| !row.cowns.contains(*cown)) {
         Some(cown) => said.line(&[
@@ -272,19 +262,20 @@ fn put_end(
         None => put_reason(
             said,
             line,
-            "the cowns that were written rise, each above the one before it",
+            "written cowns must rise, each above the one before it",
         ),
     }
 }
 
-// Tells that a row ends before it spawned its last child.
-fn put_early(
+// Tells at which tick a row spawned its last child, and what follows from that.
+fn put_spawned<'a>(
     said: &mut Said,
-    line: &[u8],
-    row: u32,
-    child: u32,
-    tick: u32,
+    line: &'a [u8],
+    numbers: [u32; 3],
+    so: [Part<'a>; 2],
 ) -> Result<(), AllocError> {
+    let [row, child, tick] = numbers;
+    let [words, bound] = so;
     said.line(&[
         Part::Quote(line),
         Part::Words(": row "),
@@ -293,6 +284,7 @@ fn put_early(
         Part::Number(u64::from(child)),
         Part::Words(" at its tick "),
         Part::Number(u64::from(tick)),
-        Part::Words(", so it takes as many at least"),
+        words,
+        bound,
     ])
 }

@@ -1,9 +1,9 @@
 // Words of a command line that are refused: one that is no edit, two files where one is read, an option of other commands, and one that is no command.
 
 use crate::formed::{put_reason, reason_of};
-use crate::place::pair_words;
-use crate::said::{Part, Said};
 use boc_program::limits::MOST_PART;
+use boc_said::place::pair_words;
+use boc_said::said::{Part, Said};
 use boc_text::read_number;
 use std::alloc::{AllocError, Global};
 use strsim::osa_distance;
@@ -151,12 +151,10 @@ fn put_files<'w>(
         Part::Quote(first),
         Part::Words(" and "),
         Part::Quote(second),
-        Part::Words(" are two FILEs, and the input is read from one"),
+        Part::Words(" are two FILEs, but the input is read from one"),
     ])?;
     if command == WHATIF {
-        said.line(&[Part::Words(
-            "a word with neither = nor @ is a FILE, and each other one an edit",
-        )])?;
+        said.words("an argument with neither = nor @ is a FILE, and each other one an edit")?;
     }
     Ok(())
 }
@@ -178,6 +176,7 @@ fn put_option(said: &mut Said, command: &[u8], told: &[u8]) -> Result<(), AllocE
     said.line(&[
         Part::Bytes(command),
         Part::Words(reads),
+        Part::Words("boc "),
         Part::Bytes(command),
         Part::Words(takes),
     ])
@@ -243,16 +242,16 @@ fn around(word: &[u8], sign: u8) -> Option<(&[u8], &[u8])> {
 // Tells why a word is no edit.
 fn put_no_edit(said: &mut Said, word: &[u8]) -> Result<(), AllocError> {
     if word.contains(&b' ') {
-        return put_reason(said, word, "an edit has no blanks");
+        return put_reason(said, word, "an edit has no spaces");
     }
     let Some((subject, change)) = around(word, b'=') else {
         return put_no_offset(said, word);
     };
     if subject.is_empty() {
-        return put_reason(said, word, "in front of the `=` stands a row or a def");
+        return put_reason(said, word, "a row or a def goes before the `=`");
     }
     if change.is_empty() {
-        return put_reason(said, word, "behind the `=` stand ticks, or a part K/D");
+        return put_reason(said, word, "ticks or a part K/D go after the `=`");
     }
     if let Some((over, under)) = around(change, b'/') {
         return put_no_part(said, word, [over, under], subject);
@@ -273,7 +272,7 @@ fn put_no_edit(said: &mut Said, word: &[u8]) -> Result<(), AllocError> {
         Part::Words(if is_row {
             " is neither ticks nor a part K/D; half of what the row costs is `"
         } else {
-            " is no part K/D; half of what the rows of a def cost is `"
+            " is not a part K/D; half of what the rows of a def cost is `"
         }),
         Part::Bytes(subject),
         Part::Words("=1/2`"),
@@ -293,10 +292,10 @@ fn put_no_ticks(said: &mut Said, word: &[u8], row: &[u8], ticks: &[u8]) -> Resul
 fn put_no_offset(said: &mut Said, word: &[u8]) -> Result<(), AllocError> {
     let (row, offset) = around(word, b'@').unwrap_or((word, b""));
     if row.is_empty() {
-        return put_reason(said, word, "in front of the `@` stands a row");
+        return put_reason(said, word, "a row goes before the `@`");
     }
     if offset.is_empty() {
-        return put_reason(said, word, "behind the `@` stands a tick");
+        return put_reason(said, word, "a tick goes after the `@`");
     }
     put_no_number(said, word, first_unread(row, offset))
 }
@@ -325,7 +324,7 @@ fn put_no_part(
     for number in &part {
         match read_number(number) {
             None if number.is_empty() => {
-                return put_reason(said, word, "a number stands on both sides of the `/`");
+                return put_reason(said, word, "a number goes on both sides of the `/`");
             }
             None => return put_no_number(said, word, number),
             Some(1..=MOST_PART) => {}

@@ -6,6 +6,7 @@ use boc_names::{Names, names_of_run, numbers_as_names, read_names, text_at};
 use boc_plans::edit::{Edit, Part};
 use boc_program::limits::{MOST_COWNS, MOST_ROWS};
 use boc_program::text::Name;
+use boc_progress::Silent;
 use boc_reader::{DefListing, read_listed};
 use boc_record::read_record;
 use boc_registers::compiled::CompiledProgram;
@@ -101,7 +102,7 @@ fn names_by_program(
         return Ok(None);
     };
     let compiled = CompiledProgram::new(alloc, &program)?;
-    let Ok(follower) = follow_record(alloc, &compiled, &record) else {
+    let Ok(follower) = follow_record(alloc, &compiled, &record, &mut Silent) else {
         return Ok(None);
     };
     let mut names: Vec<Name> = Vec::new(alloc);

@@ -2,11 +2,11 @@
 
 use crate::defs::{Asked, Defs, Naming};
 use crate::formed::put_reason;
-use crate::place::Text;
 use crate::run::Run;
-use crate::said::{Part, Said};
 use boc_plans::edit::{Change, Edit, EditFault, Part as Fraction};
 use boc_program::limits::MOST_TICKS;
+use boc_said::place::Text;
+use boc_said::said::{Part, Said};
 use std::alloc::{AllocError, Global};
 
 /// What is told of the last of these edits, which the rows of a record can't take as those before it have made them. Its word is beside them.
@@ -149,7 +149,7 @@ fn put_many(said: &mut Said, word: &[u8], run: &Run, edit: Edit) -> Result<(), A
         Part::Number(u64::from(edit.row)),
         Part::Words(" takes "),
         Part::Many(u64::from(row.ticks), "tick"),
-        Part::Words(", and would take more than 1000000"),
+        Part::Words("; the edit would exceed the limit of 1000000"),
     ])
 }
 
@@ -157,7 +157,7 @@ fn put_many(said: &mut Said, word: &[u8], run: &Run, edit: Edit) -> Result<(), A
 fn put_below(said: &mut Said, word: &[u8], run: &Run, row: u32) -> Result<(), AllocError> {
     let child = run.row(row).and_then(|row| row.last_child);
     let Some(child) = child else {
-        return put_reason(said, word, "a row takes 1 tick at least");
+        return put_reason(said, word, "a row takes at least 1 tick");
     };
     let tick = run.row(child).map_or(0, |child| child.offset);
     said.line(&[
@@ -168,9 +168,8 @@ fn put_below(said: &mut Said, word: &[u8], run: &Run, row: u32) -> Result<(), Al
         Part::Number(u64::from(child)),
         Part::Words(" at its tick "),
         Part::Number(u64::from(tick)),
-        Part::Words(", so "),
-        Part::Number(u64::from(tick)),
-        Part::Words(" is the least"),
+        Part::Words(", so it takes at least "),
+        Part::Many(u64::from(tick), "tick"),
     ])
 }
 
@@ -200,8 +199,8 @@ fn put_between(said: &mut Said, word: &[u8], run: &Run, number: u32) -> Result<(
     }
     let siblings = match (elder, younger) {
         (true, true) => ", between its siblings,",
-        (true, false) => ", behind its elder sibling,",
-        (false, true) => ", before its younger sibling,",
+        (true, false) => ", after its earlier sibling,",
+        (false, true) => ", before its later sibling,",
         (false, false) => "",
     };
     put_window(said, word, number, row.parent, (least, most), siblings)
@@ -217,17 +216,25 @@ fn put_window<'a>(
     siblings: &'a str,
 ) -> Result<(), AllocError> {
     let (least, most) = ticks;
-    let (to, last) = if least == most {
-        (Part::Words(" alone"), Part::Words(""))
+    let (at, to, last) = if least == most {
+        (
+            " can be spawned only at tick ",
+            Part::Words(""),
+            Part::Words(""),
+        )
     } else {
-        (Part::Words(" to "), Part::Number(u64::from(most)))
+        (
+            " can be spawned at tick ",
+            Part::Words(" to "),
+            Part::Number(u64::from(most)),
+        )
     };
     said.line(&[
         Part::Quote(word),
         Part::Words(": row "),
         Part::Number(u64::from(row)),
         Part::Words(siblings),
-        Part::Words(" can be spawned at tick "),
+        Part::Words(at),
         Part::Number(u64::from(least)),
         to,
         last,

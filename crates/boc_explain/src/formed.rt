@@ -1,12 +1,12 @@
 // Lines of a record that have none of its forms.
 
-use crate::limits::{put_coarser_ticks, put_fewer_cowns};
-use crate::said::{Part, Said};
+use crate::limits::{COARSER_TICKS, FEWER_COWNS};
 use boc_program::limits::{MOST_COWNS, MOST_HELD};
+use boc_said::said::{Part, Said};
 use boc_text::{MOST_LINE, read_number};
 use std::alloc::AllocError;
 
-// What is of printable ASCII in a record.
+// What is printable ASCII in a record.
 const OF_RECORDS: &str = "records are";
 
 /// Tells of a line what is wrong with it.
@@ -18,49 +18,57 @@ pub(crate) fn put_reason<'a>(
     said.line(&[Part::Quote(line), Part::Words(": "), Part::Words(reason)])
 }
 
-/// What is wrong with any line that is so.
-pub(crate) fn common_reason(line: &[u8]) -> Option<&'static str> {
+// What is wrong with any line that is so.
+fn common_reason(line: &[u8]) -> Option<&'static str> {
     match line {
         _ if line.len() > MOST_LINE && line.contains(&b'\r') => {
-            Some("a line ends with a line feed, no carriage return, and has at most 80 bytes")
+            Some("a line ends with a line feed, not a carriage return, and has at most 80 bytes")
         }
         _ if line.len() > MOST_LINE => Some("a line has at most 80 bytes"),
-        [.., b'\r'] => Some("a carriage return at its end; a line ends with a line feed alone"),
-        [.., b' '] => Some("a blank at its end"),
+        [.., b'\r'] => Some("it ends with a carriage return; lines end with only a line feed"),
+        [.., b' '] => Some("it ends with a space"),
         _ => None,
     }
 }
 
-/// The first byte of a line that is not printable ASCII, if there is one.
-pub(crate) fn unseen_byte(line: &[u8]) -> Option<u8> {
-    line.iter()
-        .copied()
-        .find(|byte| *byte != b' ' && !byte.is_ascii_graphic())
-}
-
-/// Tells of a line that a byte of it can't be seen, and what the line is of.
-pub(crate) fn put_unseen<'a>(
+/// Tells what is wrong with a line whatever it is for, and answers whether anything is. Such lines are printable ASCII.
+pub(crate) fn put_common<'a>(
     said: &mut Said,
     line: &'a [u8],
-    byte: u8,
-    of: &'a str,
-) -> Result<(), AllocError> {
+    such: &'a str,
+) -> Result<bool, AllocError> {
+    if let Some(reason) = common_reason(line) {
+        put_reason(said, line, reason)?;
+        return Ok(true);
+    }
+    let mut bytes = line.iter().copied().enumerate();
+    let Some((at, byte)) = bytes.find(|(_, byte)| *byte != b' ' && !byte.is_ascii_graphic()) else {
+        return Ok(false);
+    };
+    said.place.1 = at.saturating_add(1);
     said.line(&[
         Part::Quote(line),
         Part::Words(": the byte "),
         Part::Hex(byte),
-        Part::Words(" is not printable ASCII, of which "),
-        Part::Words(of),
-    ])
+        Part::Words(" is not printable ASCII; "),
+        Part::Words(such),
+    ])?;
+    Ok(true)
+}
+
+/// The column at which a field of a line begins. The first field has the number 0.
+pub(crate) fn column_of(line: &[u8], field: usize) -> usize {
+    let mut column: usize = 1;
+    for before in line.split(|byte| *byte == b' ').take(field) {
+        column = column.saturating_add(before.len()).saturating_add(1);
+    }
+    column
 }
 
 /// Tells what is wrong with a first line.
 pub(crate) fn put_header(said: &mut Said, line: &[u8]) -> Result<(), AllocError> {
-    if let Some(reason) = common_reason(line) {
-        return put_reason(said, line, reason);
-    }
-    if let Some(byte) = unseen_byte(line) {
-        return put_unseen(said, line, byte, OF_RECORDS);
+    if put_common(said, line, OF_RECORDS)? {
+        return Ok(());
     }
     if line.starts_with(b"#") {
         return put_reason(
@@ -79,16 +87,16 @@ pub(crate) fn put_header(said: &mut Said, line: &[u8]) -> Result<(), AllocError>
             Part::Quote(line),
             Part::Words(": version "),
             Part::Number(u64::from(version)),
-            Part::Words(", and 1 and 2 are read"),
+            Part::Words(" is not known; boc reads 1 and 2"),
         ]),
         (Some(_), Some(cowns)) if cowns as usize > MOST_COWNS => {
             said.line(&[
                 Part::Quote(line),
                 Part::Words(": "),
                 Part::Number(u64::from(cowns)),
-                Part::Words(" cowns, and there are at most 256"),
+                Part::Words(" cowns, but at most 256 are allowed"),
             ])?;
-            put_fewer_cowns(said)
+            said.words(FEWER_COWNS)
         }
         _ => put_reason(
             said,
@@ -105,27 +113,24 @@ pub(crate) fn put_form(said: &mut Said, line: &[u8], is_first: bool) -> Result<(
     {
         return put_many_cowns(said, line, count);
     }
-    if let Some(reason) = common_reason(line) {
-        return put_reason(said, line, reason);
-    }
-    if let Some(byte) = unseen_byte(line) {
-        return put_unseen(said, line, byte, OF_RECORDS);
+    if put_common(said, line, OF_RECORDS)? {
+        return Ok(());
     }
     match line {
-        [] => said.line(&[Part::Words("an empty line")]),
+        [] => said.words("a record has no empty lines"),
         [b'#', ..] => put_reason(said, line, "a record has no comments"),
         [b'@' | b'=', b' ', b'0'..=b'9', ..] => put_reason(
             said,
             line,
-            "names stand in a file of their own, for --names",
+            "names go in a file of their own, for --names",
         ),
-        [b'.', ..] => put_reason(said, line, "the last line is `.` alone"),
+        [b'.', ..] => put_reason(said, line, "the last line is only `.`"),
         [sign @ (b'+' | b'>' | b'<'), b' ', fields @ ..] => {
             put_fields(said, line, *sign, fields, is_first)
         }
-        [b'+' | b'>' | b'<'] => put_reason(said, line, "no numbers behind the sign"),
-        [b'+' | b'>' | b'<', ..] => put_reason(said, line, "no blank behind the sign"),
-        [b' ', ..] => put_reason(said, line, "a blank at its beginning"),
+        [b'+' | b'>' | b'<'] => put_reason(said, line, "no numbers after the sign"),
+        [b'+' | b'>' | b'<', ..] => put_reason(said, line, "no space after the sign"),
+        [b' ', ..] => put_reason(said, line, "it begins with a space"),
         [b'b', b'o', b'c', b' ', ..] => put_reason(
             said,
             line,
@@ -168,9 +173,9 @@ fn put_many_cowns(said: &mut Said, line: &[u8], count: u64) -> Result<(), AllocE
         Part::Quote(line),
         Part::Words(": "),
         told,
-        Part::Words(", and a row has at most 8"),
+        Part::Words(", but a row has at most 8"),
     ])?;
-    put_fewer_cowns(said)
+    said.words(FEWER_COWNS)
 }
 
 // What is wrong with the fields of a line.
@@ -181,14 +186,15 @@ fn put_fields(
     fields: &[u8],
     is_first: bool,
 ) -> Result<(), AllocError> {
-    let mut count: u64 = 0;
+    let mut count: usize = 0;
     let mut third = 0;
     for field in fields.split(|byte| *byte == b' ') {
         let Some(number) = read_number(field) else {
+            said.place.1 = column_of(line, count.saturating_add(1));
             put_field(said, line, field)?;
             let is_of_ticks = matches!((sign, count), (b'+', 2) | (b'<', 1));
             return if is_of_ticks && is_large(field) {
-                put_coarser_ticks(said)
+                said.words(COARSER_TICKS)
             } else {
                 Ok(())
             };
@@ -208,7 +214,7 @@ fn put_fields(
         return said.line(&[
             Part::Quote(line),
             Part::Words(": "),
-            Part::Many(count, "number"),
+            Part::Many(count as u64, "number"),
             Part::Words("; the form is "),
             Part::Words(form),
         ]);
@@ -222,7 +228,7 @@ fn put_fields(
 // What is wrong with a field that is no number.
 fn put_field<'a>(said: &mut Said, line: &'a [u8], field: &'a [u8]) -> Result<(), AllocError> {
     if field.is_empty() {
-        return put_reason(said, line, "two blanks; a single one stands between fields");
+        return put_reason(said, line, "two spaces; fields are separated by one");
     }
     said.line(&[
         Part::Quote(line),
@@ -245,12 +251,12 @@ fn is_large(word: &[u8]) -> bool {
 /// Why a word is no number.
 pub(crate) fn reason_of(word: &[u8]) -> &'static str {
     match word {
-        [] => " is no plain decimal",
+        [] => " is not a plain decimal",
         [b'-', b'1'..=b'9', digits @ ..] if digits.iter().all(|byte| byte.is_ascii_digit()) => {
-            " is negative, and numbers are plain decimals"
+            " is negative; numbers are plain decimals"
         }
         [b'0', ..] if word.iter().all(|byte| byte.is_ascii_digit()) => " begins with a 0",
         _ if word.iter().all(|byte| byte.is_ascii_digit()) => " is above 4294967295",
-        _ => " is no plain decimal",
+        _ => " is not a plain decimal",
     }
 }

@@ -2,8 +2,8 @@
 
 ghost use Rattle.std.specs.Prelude.{◌≡◌};
 
-use crate::place::{Text, looks_like_record};
 use boc_program::limits::MOST_ROWS;
+use boc_said::place::{Text, looks_like_record};
 use boc_text::{Failed, MOST_LINE, Source};
 use std::alloc::Global;
 use std::io::{self, Read};
@@ -36,11 +36,12 @@ impl Kept {
         &self.bytes
     }
 
-    /// The bytes as a text.
-    pub fn text(&self) -> Text<'_> {
+    /// The bytes as a text, which comes from the file with this name, if it comes from one.
+    pub fn text<'a>(&'a self, name: Option<&'a str>) -> Text<'a> {
         Text {
             bytes: &self.bytes,
             whole: self.is_whole,
+            name,
         }
     }
 

@@ -1,13 +1,14 @@
 // Cowns and defs that aren't there.
 
-use crate::declared::{Thing, top_names};
 use crate::defs::{Naming, names_by_file};
 use crate::formed::put_reason;
-use crate::place::Text;
-use crate::run::{Run, line_at};
-use crate::said::{MOST_QUOTE, Part, Said};
-use crate::tokens::words_of;
+use crate::names::record_cowns;
+use crate::run::Run;
 use boc_names::Names;
+use boc_said::declared::{Thing, top_names};
+use boc_said::place::Text;
+use boc_said::said::{MOST_QUOTE, Part, Said};
+use boc_said::tokens::words_of;
 use boc_text::read_number;
 use std::alloc::{AllocError, Global};
 
@@ -53,11 +54,9 @@ pub fn explain_def(
         Naming::Program(program) => put_of_program(alloc, &mut said, program, Kind::Def, name)?,
         Naming::Names(file) => put_of_file(alloc, &mut said, text, file, Kind::Def, name)?,
         Naming::Numbers => said.line(&[
-            Part::Words("no row is of a def "),
+            Part::Words("no row belongs to a def "),
             Part::Quote(name),
-            Part::Words(
-                "; neither file is given, and each row is a def of its own then, as `row 0`",
-            ),
+            Part::Words("; without either file each row is a def of its own, such as `row 0`"),
         ])?,
     }
     Ok(said.into_text())
@@ -65,9 +64,7 @@ pub fn explain_def(
 
 // Tells which cowns a record has.
 fn put_of_record(said: &mut Said, text: Text<'_>, name: &[u8]) -> Result<(), AllocError> {
-    let header = line_at(text.bytes, 1).map_or(b"".as_slice(), |line| line.0);
-    let last = header.rsplit(|byte| *byte == b' ').next().unwrap_or(b"");
-    match read_number(last) {
+    match record_cowns(text.bytes) {
         None => Ok(()),
         Some(0) => put_reason(said, name, "the record has no cowns"),
         Some(count) => said.line(&[
@@ -99,9 +96,9 @@ fn put_of_program(
     }
     let (none, some, behind) = match kind {
         Kind::Def => (
-            "; the program has no def but main",
+            "; the program has no def except main",
             "; the program's defs are ",
-            ", beside main",
+            ", and main",
         ),
         Kind::Cown => (
             "; the program has no cowns",
@@ -227,7 +224,7 @@ impl Listed {
         };
         said.line(&[
             Part::Words(match kind {
-                Kind::Def => "no row is of a def ",
+                Kind::Def => "no row belongs to a def ",
                 Kind::Cown => "no cown is called ",
             }),
             Part::Quote(name),

@@ -1,11 +1,11 @@
 // Faults of files of names.
 
-use crate::formed::{common_reason, put_reason, put_unseen, reason_of, unseen_byte};
-use crate::place::{Text, is_first_word, looks_like_record};
+use crate::formed::{column_of, put_common, put_reason, reason_of};
 use crate::run::{Run, line_at};
-use crate::said::{Part, Said};
 use boc_names::{MOST_NAMES, NamesFault, NamesFaultKind};
 use boc_reader::read_program;
+use boc_said::place::{Text, is_first_word, looks_like_record};
+use boc_said::said::{Part, Said};
 use boc_text::{MOST_LINE, read_number};
 use std::alloc::{AllocError, Global};
 
@@ -19,12 +19,13 @@ pub fn explain_names(
     input: Text<'_>,
     fault: NamesFault,
 ) -> Result<String, AllocError> {
-    let mut said = Said::new(alloc);
-    let Some((line, is_ended)) = line_at(text.bytes, fault.line) else {
-        return Ok(said.into_text());
+    let mut said = Said::of(alloc, text, fault.line)?;
+    let line = match line_at(text.bytes, fault.line) {
+        Some((line, is_ended)) if is_ended || text.whole => line,
+        _ => return Ok(said.into_text()),
     };
-    if !is_ended && !text.whole {
-        return Ok(said.into_text());
+    if let NamesFaultKind::NoRow | NamesFaultKind::NoCown | NamesFaultKind::Twice = fault.kind {
+        said.place.1 = column_of(line, 1);
     }
     match fault.kind {
         NamesFaultKind::TooLong | NamesFaultKind::Form if looks_like_record(text.bytes) => {
@@ -34,16 +35,12 @@ pub fn explain_names(
             put_other_text(&mut said, "a program")?;
         }
         NamesFaultKind::Cut => {
-            put_reason(&mut said, line, "no line feed stands behind the last line")?;
+            put_reason(&mut said, line, "the last line has no line feed")?;
         }
         NamesFaultKind::TooLong if line.len() > MOST_LINE => {
             put_reason(&mut said, line, "a line has at most 80 bytes")?;
         }
-        NamesFaultKind::TooLong => put_reason(
-            &mut said,
-            line,
-            "a file of names has at most 8 MiB",
-        )?,
+        NamesFaultKind::TooLong => put_reason(&mut said, line, "a names file has at most 8 MiB")?,
         NamesFaultKind::Form => put_form(&mut said, line)?,
         NamesFaultKind::NoRow => put_no_row(alloc, &mut said, line, input)?,
         NamesFaultKind::NoCown => put_no_cown(alloc, &mut said, line, input)?,
@@ -78,20 +75,17 @@ fn is_of_program(text: &[u8]) -> bool {
 
 // What is wrong with a line that has none of the forms.
 fn put_form(said: &mut Said, line: &[u8]) -> Result<(), AllocError> {
-    if let Some(reason) = common_reason(line) {
-        return put_reason(said, line, reason);
-    }
-    if let Some(byte) = unseen_byte(line) {
-        return put_unseen(said, line, byte, "names and arguments are");
+    if put_common(said, line, "names and arguments are")? {
+        return Ok(());
     }
     match line {
         [sign @ (b'=' | b'@'), b' ', fields @ ..] => put_fields(said, line, *sign, fields),
-        [b'=' | b'@'] => put_reason(said, line, "no number and no name behind the sign"),
-        [b'=' | b'@', ..] => put_reason(said, line, "no blank behind the sign"),
+        [b'=' | b'@'] => put_reason(said, line, "no number and no name after the sign"),
+        [b'=' | b'@', ..] => put_reason(said, line, "no space after the sign"),
         _ => put_reason(
             said,
             line,
-            "a line is `@ COWN NAME`, `= ROW NAME [ARG ..]`, empty, or a comment from `#` on",
+            "a line is `@ COWN NAME`, `= ROW NAME [ARG ..]`, empty, or a `#` comment",
         ),
     }
 }
@@ -106,9 +100,10 @@ fn put_fields<'a>(
     let mut count: u64 = 0;
     for field in fields.split(|byte| *byte == b' ') {
         if field.is_empty() {
-            return put_reason(said, line, "two blanks; a single one stands between words");
+            return put_reason(said, line, "two spaces; words are separated by one");
         }
         if count == 0 && read_number(field).is_none() {
+            said.place.1 = column_of(line, 1);
             return said.line(&[
                 Part::Quote(line),
                 Part::Words(": "),
@@ -121,7 +116,7 @@ fn put_fields<'a>(
     let reason = match sign {
         b'=' => "no name; the form is `= ROW NAME [ARG ..]`",
         _ if count < 2 => "no name; the form is `@ COWN NAME`",
-        _ => "words behind the name; the form is `@ COWN NAME`",
+        _ => "words after the name; the form is `@ COWN NAME`",
     };
     put_reason(said, line, reason)
 }
@@ -215,7 +210,7 @@ fn put_twice<'a>(
                 Part::Quote(line),
                 Part::Words(": line "),
                 Part::Number(counted),
-                Part::Words(" names it already, "),
+                Part::Words(" already names it: "),
                 Part::Quote(other),
             ]);
         }

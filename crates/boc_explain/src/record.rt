@@ -3,13 +3,13 @@
 use crate::broken::put_broken;
 use crate::command_words::WHATIF;
 use crate::formed::{put_form, put_header, put_reason};
-use crate::place::{
-    Beside, Place, Text, looks_like_names, looks_like_program, looks_like_record, put_pair,
-};
-use crate::program::{put_names_file, put_nothing};
 use crate::run::{Life, Run, line_at};
-use crate::said::{Part, Said};
 use boc_record::{RecordFault, RecordFaultKind};
+use boc_said::place::{
+    Beside, Place, Text, looks_like_names, looks_like_program, looks_like_record, put_names_file,
+    put_nothing, put_pair,
+};
+use boc_said::said::{Part, Said};
 use std::alloc::{AllocError, Global};
 
 /// What is told of the text of a record behind the line of its fault. There is nothing to tell where that line wasn't kept.
@@ -19,20 +19,14 @@ pub fn explain_record(
     place: Place<'_>,
     fault: RecordFault,
 ) -> Result<String, AllocError> {
-    let mut said = Said::new(alloc);
+    let mut said = Said::of(alloc, text, fault.line)?;
     if text.bytes.is_empty() && text.whole {
-        put_nothing(&mut said, place)?;
-        return Ok(said.into_text());
-    }
-    if fault.line == 1 && looks_like_names(text.bytes) {
+        put_nothing(&mut said, text)?;
+    } else if fault.line == 1 && looks_like_names(text.bytes) {
         put_names_file(&mut said)?;
-        return Ok(said.into_text());
-    }
-    if fault.line == 1 && looks_like_program(text.bytes) {
+    } else if fault.line == 1 && looks_like_program(text.bytes) {
         put_program(&mut said, place)?;
-        return Ok(said.into_text());
-    }
-    if let Some((line, is_ended)) = line_at(text.bytes, fault.line)
+    } else if let Some((line, is_ended)) = line_at(text.bytes, fault.line)
         && (is_ended || text.whole)
     {
         put_fault(alloc, &mut said, text.bytes, line, fault)?;
@@ -43,9 +37,9 @@ pub fn explain_record(
 // Tells that a program stands where a record is wanted. Behind `--record` the input was taken, so it is the program.
 fn put_program(said: &mut Said, place: Place<'_>) -> Result<(), AllocError> {
     if place.is_beside && place.beside == Some(Beside::Record) {
-        return said.line(&[Part::Words(
+        return said.words(
             "this looks like a program; --record takes a record: boc run FILE > RECORD",
-        )]);
+        );
     }
     if place.is_of_pair() {
         let swapped = looks_like_record(place.other);
@@ -82,16 +76,16 @@ fn put_fault(
             put_reason(
                 said,
                 line,
-                "another record begins here; a text is of one record",
+                "another record begins here; a file has only one",
             )
         }
-        RecordFaultKind::After => { put_reason(said, line, "nothing stands behind the line `.`") }
+        RecordFaultKind::After => { put_reason(said, line, "nothing can follow the line `.`") }
         RecordFaultKind::Unended => put_left(alloc, said, text, fault.line),
         RecordFaultKind::Truncated => {
             if line.is_empty() {
-                said.line(&[Part::Words("the text ends before the line `.`")])?;
+                said.words("the record ends before the line `.`")?;
             } else {
-                put_reason(said, line, "the text ends within this line")?;
+                put_reason(said, line, "the record ends within this line")?;
             }
             put_left(alloc, said, text, fault.line)
         }
@@ -104,7 +98,7 @@ fn put_fault(
 fn put_left(alloc: Global, said: &mut Said, text: &[u8], line: u64) -> Result<(), AllocError> {
     let run = Run::before(alloc, text, line)?;
     if run.rows.is_empty() {
-        return said.line(&[Part::Words("no row was spawned yet")]);
+        return said.words("no row was spawned yet");
     }
     put_rows(said, &run, Life::Pending, " not started, the first is row ")?;
     put_rows(
@@ -117,22 +111,13 @@ fn put_left(alloc: Global, said: &mut Said, text: &[u8], line: u64) -> Result<()
 
 // Tells how many rows have come so far, and which is the first of them.
 fn put_rows(said: &mut Said, run: &Run, life: Life, words: &str) -> Result<(), AllocError> {
-    let mut count: u64 = 0;
-    let mut first: u64 = 0;
-    for (number, row) in run.rows.iter().enumerate() {
-        if row.life == life {
-            if count == 0 {
-                first = number as u64;
-            }
-            count = count.saturating_add(1);
-        }
-    }
-    if count == 0 {
+    let Some(first) = run.rows.iter().position(|row| row.life == life) else {
         return Ok(());
-    }
+    };
+    let count = run.rows.iter().filter(|row| row.life == life).count();
     said.line(&[
-        Part::Many(count, "row"),
+        Part::Many(count as u64, "row"),
         Part::Words(words),
-        Part::Number(first),
+        Part::Number(first as u64),
     ])
 }

@@ -3,13 +3,13 @@
 use crate::followed::{Course, Deed, deed_at, writes_others};
 use crate::formed::put_reason;
 use crate::names::program_cowns;
-use crate::place::Text;
 use crate::run::line_at;
-use crate::said::{Part, Said};
 use boc_follow::{StrayFault, StrayFaultKind};
 use boc_program::body::EndStatus;
 use boc_program::short::CownNo;
 use boc_runs::event::Event;
+use boc_said::place::Text;
+use boc_said::said::{Part, Said};
 use boc_text::put_number;
 use std::alloc::{AllocError, Global};
 
@@ -20,7 +20,7 @@ pub fn explain_stray(
     program: Text<'_>,
     fault: StrayFault,
 ) -> Result<String, AllocError> {
-    let mut said = Said::new(alloc);
+    let mut said = Said::of(alloc, text, fault.line)?;
     let Some((line, true)) = line_at(text.bytes, fault.line) else {
         return Ok(said.into_text());
     };
@@ -77,7 +77,7 @@ fn put_unknown_course(
 ) -> Result<(), AllocError> {
     let reason = match kind {
         StrayFaultKind::NotNextSpawn => {
-            "in the program its parent spawns at another tick or over other cowns, or is done"
+            "in the program its parent spawns at another tick, over other cowns, or no more"
         }
         _ => "in the program it ends after other ticks, with other cowns written, or spawns first",
     };
@@ -94,11 +94,11 @@ fn put_course<'a>(
     let row = Part::Number(u64::from(course.row));
     let (begin, end) = if course.is_first_version && writes_others(&course.deed, &course.event) {
         (
-            ": version 1 can't tell how row ",
-            " ends in the program; in version 2 it is ",
+            ": version 1 can't say how row ",
+            " ends in the program; version 2 says ",
         )
     } else {
-        (": in the program row ", " goes on with ")
+        (": in the program row ", " continues with ")
     };
     said.line(&[
         Part::Quote(line),
@@ -107,28 +107,24 @@ fn put_course<'a>(
         Part::Words(end),
         Part::Quote(&course.line),
     ])?;
-    let is = [
+    let (then, spawned) = match (&course.deed, &course.event) {
+        (Deed::Spawns { name, .. }, Event::Spawn { .. }) => {
+            (", and next spawns ", Part::Quote(name))
+        }
+        (Deed::Spawns { name, .. }, _) => (", and before it ends it spawns ", Part::Quote(name)),
+        (Deed::Ends { .. }, Event::Spawn { .. }) => {
+            (", and ends without another spawn", Part::Words(""))
+        }
+        _ => (", and ends", Part::Words("")),
+    };
+    said.line(&[
         Part::Words("row "),
         row,
         Part::Words(" is "),
         Part::Quote(&course.name),
-    ];
-    let [first, second, third, fourth] = is;
-    match (&course.deed, &course.event) {
-        (Deed::Spawns { name, .. }, Event::Spawn { .. }) => {
-            let spawns = Part::Words(", and next spawns ");
-            said.line(&[first, second, third, fourth, spawns, Part::Quote(name)])?;
-        }
-        (Deed::Spawns { name, .. }, _) => {
-            let spawns = Part::Words(", and before it ends it spawns ");
-            said.line(&[first, second, third, fourth, spawns, Part::Quote(name)])?;
-        }
-        (Deed::Ends { .. }, Event::Spawn { .. }) => {
-            let ends = Part::Words(", and ends with no other spawn");
-            said.line(&[first, second, third, fourth, ends])?;
-        }
-        _ => said.line(&[first, second, third, fourth, Part::Words(", and ends")])?,
-    }
+        Part::Words(then),
+        spawned,
+    ])?;
     put_differences(alloc, said, course)
 }
 

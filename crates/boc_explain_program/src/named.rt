@@ -1,9 +1,9 @@
 // Names that aren't in scope, and names that are taken.
 
-use crate::declared::{Declaration, Thing, body_names, declared_as, top_names};
-use crate::said::{Part, Said};
-use crate::tokens::Word;
-use crate::view::line_number;
+use boc_said::declared::{Declaration, Thing, body_names, declared_as, top_names};
+use boc_said::said::{Part, Said};
+use boc_said::tokens::Word;
+use boc_said::view::line_number;
 use std::alloc::{AllocError, Global};
 
 /// What a name stands for at a place.
@@ -44,8 +44,7 @@ pub(crate) fn put_unknown(
                 Part::Words(match wanted {
                     Use::Def => "no def is called ",
                     Use::Cown => "no cown is called ",
-                    Use::Argument | Use::Value =>
-                        "no parameter and no `let` of this body is called ",
+                    Use::Argument | Use::Value => "no parameter or `let` of this body is called ",
                 }),
                 Part::Quote(word.bytes),
             ])?;
@@ -61,15 +60,15 @@ fn put_undeclared(said: &mut Said, words: &[Word<'_>], word: &Word<'_>) -> Resul
     let begins = before.is_some_and(|word| word.is(b";") || word.is(b"{") || word.is(b"}"));
     if begins && behind.is_some_and(|word| word.is(b"=")) {
         return said.line(&[
-            Part::Words("a local is declared by `let "),
+            Part::Words("declare a local with `let "),
             Part::Bytes(word.bytes),
             Part::Words(" = ..;`"),
         ]);
     }
     match word.bytes {
-        b"true" | b"false" | b"True" | b"False" => said.line(&[Part::Words(
-            "values are whole numbers: a comparison is 1 where it holds, and 0 elsewhere",
-        )]),
+        b"true" | b"false" | b"True" | b"False" => said.words(
+            "values are integers: a comparison is 1 if it holds, else 0",
+        ),
         _ => Ok(()),
     }
 }
@@ -87,7 +86,7 @@ fn put_other(
         Part::Words(" is "),
         Part::Words(other.thing.called()),
         Part::Words(if behind {
-            ", declared only behind it, on line "
+            ", declared only later, on line "
         } else {
             ", declared on line "
         }),
@@ -103,22 +102,22 @@ fn put_wanted(
     is_main: bool,
 ) -> Result<(), AllocError> {
     let words = match (wanted, other.thing) {
-        (Use::Def, _) => "behind `when` stands a def",
-        (Use::Cown, _) => "a cown of a `when` is a global one or a cown parameter",
+        (Use::Def, _) => "a `when` takes the name of a def",
+        (Use::Cown, _) => "a `when` takes cowns of the program or cown parameters after its `;`",
         (Use::Argument | Use::Value, Thing::Cown | Thing::Array) if is_main => {
-            "main has no cown: what reads and writes one is a def, which a `when` spawns over it"
+            "main has no cowns: read and write them in a def that main spawns with `when`"
         }
         (Use::Argument, Thing::Cown | Thing::Array) => {
-            "what stands before the `;` of a `when` is a number: a body reads a cown by its parameter"
+            "a `when` takes numbers before its `;`: a body reads a cown through its parameter"
         }
         (Use::Value, Thing::Cown | Thing::Array) => {
-            "a body reads and writes a cown by a parameter alone: name it in the `when` that spawns the body"
+            "a body reads and writes a cown only through a parameter: pass it in the `when` that spawns the body"
         }
-        (Use::Argument | Use::Value, Thing::Def { .. }) => "only a `when` names a def",
+        (Use::Argument | Use::Value, Thing::Def { .. }) => "only a `when` can name a def",
         (Use::Argument | Use::Value, _) =>
-            "a `let` is in scope from behind its statement to the end of its block",
+            "a `let` is in scope after its statement, until the end of its block",
     };
-    said.line(&[Part::Words(words)])
+    said.words(words)
 }
 
 // What the name at a place stands for. It is a cown of a `when` behind the semicolon in its parentheses.

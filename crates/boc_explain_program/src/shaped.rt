@@ -2,10 +2,10 @@
 
 use crate::allowed::{Allowed, allowed_behind, told};
 use crate::hint::{is_open, put_hint};
-use crate::place::is_first_word;
-use crate::said::{Part, Said};
-use crate::tokens::{Word, is_keyword, words_of};
-use crate::view::{line_number, put_place};
+use boc_said::place::is_first_word;
+use boc_said::said::{Part, Said};
+use boc_said::tokens::{Word, is_keyword, words_of};
+use boc_said::view::{line_number, put_place};
 use std::alloc::{AllocError, Global};
 
 // The most tokens that are told to be allowed.
@@ -23,7 +23,7 @@ pub(crate) fn put_unexpected(
     let before = words.iter().rev().find(|word| word.at < at).copied();
     if is_size(&words, at) {
         put_place(said, text, at)?;
-        return said.line(&[Part::Words("an array has 1 to 256 members")]);
+        return said.words("an array has 1 to 256 members");
     }
     let (front, _) = text.split_at(at.min(text.len()));
     let bytes: &[u8] = match &found {
@@ -36,7 +36,7 @@ pub(crate) fn put_unexpected(
     if allowed.semicolon && on_later_line && is_open(&words, at) && begins_statement(&words, at) {
         put_place(said, text, at)?;
         put_found(said, text, found, before)?;
-        return said.line(&[Part::Words("a list is `(values; cowns)`, and this one is not closed")]);
+        return said.words("this list is not closed: a list is `(values; cowns)`");
     }
     if let Some(before) = before
         && (allowed.semicolon && on_later_line
@@ -44,7 +44,7 @@ pub(crate) fn put_unexpected(
     {
         put_place(said, text, before.end())?;
         return said.line(&[
-            Part::Words("a `;` is missing behind "),
+            Part::Words("a `;` is missing after "),
             Part::Quote(before.bytes),
             Part::Words(" on line "),
             Part::Number(line_number(text, before.at)),
@@ -144,50 +144,57 @@ fn is_size(words: &[Word<'_>], at: usize) -> bool {
     zero && bracket && named && before.next().is_some_and(|word| word.is(b"cown"))
 }
 
-// What was found, and behind what.
+// What was found, and after what.
 fn put_found<'a>(
     said: &mut Said,
     text: &[u8],
     found: Option<Word<'a>>,
     before: Option<Word<'a>>,
 ) -> Result<(), AllocError> {
-    let (what, quoted) = match found {
-        Some(word) => (Part::Quote(word.bytes), " is not allowed"),
-        None => (Part::Words("the text"), " can't end"),
+    let Some(before) = before else {
+        return match found {
+            Some(word) => said.line(&[
+                Part::Words("a program can't begin with "),
+                Part::Quote(word.bytes),
+            ]),
+            None => said.words("the program has no tokens"),
+        };
     };
-    match before {
-        Some(before) => said.line(&[
-            what,
-            Part::Words(quoted),
-            Part::Words(" behind "),
-            Part::Quote(before.bytes),
-            Part::Words(" on line "),
-            Part::Number(line_number(text, before.at)),
-        ]),
-        None => said.line(&[what, Part::Words(quoted), Part::Words(" at the beginning")]),
-    }
+    let (what, follows) = match found {
+        Some(word) => (Part::Quote(word.bytes), " can't follow "),
+        None => (Part::Words("the program"), " can't end after "),
+    };
+    said.line(&[
+        what,
+        Part::Words(follows),
+        Part::Quote(before.bytes),
+        Part::Words(" on line "),
+        Part::Number(line_number(text, before.at)),
+    ])
 }
 
-// What is allowed in place of these bytes.
+// What is expected instead of these bytes.
 fn put_allowed(said: &mut Said, bytes: &[u8], allowed: &Allowed) -> Result<(), AllocError> {
     if allowed.name && is_keyword(bytes) && !allowed.has(b"1") && !allowed.has(b"let") {
         return said.line(&[
-            Part::Words("a name is allowed there, and "),
+            Part::Words("expected a name; "),
             Part::Quote(bytes),
             Part::Words(" is a keyword"),
         ]);
     }
     let mut tokens = allowed.tokens.iter().copied();
     let Some(first) = tokens.next() else {
-        return said.line(&[Part::Words(
-            "nothing is allowed there: a program ends with main's block",
-        )]);
+        return said.words("a program ends with main's block");
     };
     let (second, comma) = part_of(tokens.next());
     let (third, other_comma) = part_of(tokens.next());
     let more = allowed.tokens.len() > MOST_TOLD;
     said.line(&[
-        Part::Words("allowed there: "),
+        Part::Words(if allowed.tokens.len() > 1 {
+            "expected one of: "
+        } else {
+            "expected "
+        }),
         told(first),
         comma,
         second,

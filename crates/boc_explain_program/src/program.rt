@@ -2,14 +2,15 @@
 
 use crate::counted::{put_too_many, put_wrong_count};
 use crate::named::{put_taken, put_unknown};
-use crate::place::{
-    Place, Text, has_start, looks_like_names, looks_like_program, looks_like_record, put_pair,
-};
-use crate::said::{Part, Said};
 use crate::shaped::put_unexpected;
-use crate::tokens::{Word, is_name_byte, run_len, words_of};
-use crate::view::{first_line, last_line, put_place};
 use boc_reader::{ReadFault, ReadFaultKind};
+use boc_said::place::{
+    Place, Text, has_start, looks_like_names, looks_like_program, looks_like_record,
+    put_names_file, put_nothing, put_pair,
+};
+use boc_said::said::{Part, Said};
+use boc_said::tokens::{Word, is_name_byte, run_len, words_of};
+use boc_said::view::{first_line, last_line, put_place};
 use std::alloc::{AllocError, Global};
 
 /// What is told of a program text behind the line of its fault. There is nothing to tell where the place of the fault wasn't kept.
@@ -19,38 +20,20 @@ pub fn explain_program(
     place: Place<'_>,
     fault: ReadFault,
 ) -> Result<String, AllocError> {
-    let mut said = Said::new(alloc);
+    let mut said = Said::of(alloc, text, u64::from(fault.line))?;
     let at = fault.at as usize;
     if text.bytes.is_empty() && text.whole {
-        put_nothing(&mut said, place)?;
+        put_nothing(&mut said, text)?;
     } else if looks_like_record(text.bytes) {
         put_record(&mut said, place)?;
     } else if looks_like_names(text.bytes) {
         put_names_file(&mut said)?;
     } else if has_start(text.bytes) {
-        said.line(&[Part::Words(
-            "this looks like a record, but its first line is not `boc 2 COWNS`",
-        )])?;
+        said.words("this looks like a record, but its first line is not `boc 2 COWNS`")?;
     } else if at <= text.bytes.len() {
         put_fault(alloc, &mut said, text.bytes, fault.kind, at)?;
     }
     Ok(said.into_text())
-}
-
-/// Tells that a text has no bytes.
-pub(crate) fn put_nothing(said: &mut Said, place: Place<'_>) -> Result<(), AllocError> {
-    said.line(&[Part::Words(if place.is_beside {
-        "the file is empty"
-    } else {
-        "the input is empty; if a command stood before it, did that fail?"
-    })])
-}
-
-/// Tells that names stand where a program or a record is wanted.
-pub(crate) fn put_names_file(said: &mut Said) -> Result<(), AllocError> {
-    said.line(&[Part::Words(
-        "this looks like a file of names, which stands behind --names, beside a program or a record",
-    )])
 }
 
 // Tells that a record stands where a program is wanted.
@@ -89,9 +72,7 @@ fn put_fault(
             put_place(said, text, at)?;
             put_large(said, rest)
         }
-        ReadFaultKind::TooLong => {
-            said.line(&[Part::Words("a program text has at most 65536 bytes")])
-        }
+        ReadFaultKind::TooLong => { said.words("a program text has at most 65536 bytes") }
         ReadFaultKind::Memory => Ok(()),
         ReadFaultKind::Unexpected => put_unexpected(alloc, said, text, at),
         ReadFaultKind::UnknownName
@@ -127,7 +108,7 @@ fn put_not_ascii(said: &mut Said, rest: &[u8]) -> Result<(), AllocError> {
     said.line(&[
         Part::Words("the byte "),
         Part::Hex(byte),
-        Part::Words(" is not ASCII; a program text is, its comments too"),
+        Part::Words(" is not ASCII; programs are ASCII, their comments too"),
     ])
 }
 
@@ -135,7 +116,7 @@ fn put_large(said: &mut Said, rest: &[u8]) -> Result<(), AllocError> {
     let (digits, _) = rest.split_at(run_len(rest).min(rest.len()));
     said.line(&[
         Part::Quote(digits),
-        Part::Words(" is above 9223372036854775807, the greatest number"),
+        Part::Words(" is above 9223372036854775807, the largest number"),
     ])
 }
 
@@ -147,16 +128,16 @@ fn put_bad_token(said: &mut Said, front: &[u8], rest: &[u8]) -> Result<(), Alloc
         [b'0', others @ ..] if others.iter().all(|byte| byte.is_ascii_digit()) => {
             said.line(&[
                 Part::Quote(run),
-                Part::Words(": a number begins with no 0, but for 0 itself"),
+                Part::Words(": a number can't begin with 0, except 0 itself"),
             ])
         }
         [first, ..] if first.is_ascii_digit() => said.line(&[
             Part::Quote(run),
-            Part::Words(": what begins with a digit is a number, and has digits alone"),
+            Part::Words(": a number has only digits, and a name can't begin with one"),
         ]),
         _ => said.line(&[
             Part::Quote(run),
-            Part::Words(": a name has at most 32 bytes, and this one "),
+            Part::Words(": a name has at most 32 bytes, and this one has "),
             Part::Number(run.len() as u64),
         ]),
     }
@@ -169,16 +150,16 @@ fn put_no_token(said: &mut Said, front: &[u8], rest: &[u8]) -> Result<(), AllocE
         [byte] if !byte.is_ascii_graphic() => said.line(&[
             Part::Words("the byte "),
             Part::Hex(*byte),
-            Part::Words(" begins no token"),
+            Part::Words(" is not a token"),
         ]),
         [b':', ..] => said.line(&[
             Part::Quote(sign),
-            Part::Words(" begins no token"),
+            Part::Words(" is not a token"),
             Part::Words(colon_words(front, behind)),
         ]),
         _ => said.line(&[
             Part::Quote(sign),
-            Part::Words(" begins no token"),
+            Part::Words(" is not a token"),
             Part::Words(other_words(front, rest)),
         ]),
     }
@@ -193,9 +174,9 @@ const OPENING: [&[u8]; 7] = [
 fn colon_words(front: &[u8], behind: &[u8]) -> &'static str {
     let line = in_block(last_line(front));
     match (front, behind) {
-        ([.., b'='], [b'=', ..]) => ": two values are compared by `==`",
+        ([.., b'='], [b'=', ..]) => ": compare two values with `==`",
         (_, [b'=', ..]) => {
-            ": a local is declared by `let NAME = ..;`, and changed by `NAME = ..;`"
+            ": declare a local with `let NAME = ..;`, and change it with `NAME = ..;`"
         }
         _ if OPENING.iter().any(|word| has_word(line, *word)) => ": a block is `{ .. }`",
         _ if has_word(line, b"when") && is_list_open(line) =>
@@ -205,7 +186,7 @@ fn colon_words(front: &[u8], behind: &[u8]) -> &'static str {
         }
         (_, [] | [b'\n' | b'\r', ..]) => ": a statement ends with `;`",
         (_, [b' ', next, ..]) if next.is_ascii_alphabetic() => {
-            ": nothing has a type, all values are whole numbers"
+            ": there are no types, all values are integers"
         }
         _ => "",
     }
@@ -240,19 +221,19 @@ fn has_word(line: &[u8], word: &[u8]) -> bool {
 fn other_words(front: &[u8], rest: &[u8]) -> &'static str {
     match (front, rest) {
         (_, [b'&', b'&', ..]) => {
-            ": of two comparisons both hold where their product is 1, `(x == 1) * (y == 2)`, and both are worked out"
+            ": write `and` as a product, `(x == 1) * (y == 2)`, of which both sides are evaluated"
         }
         (_, [b'|', b'|', ..]) => {
-            ": of two comparisons one holds where their sum isn't 0, `(x == 1) + (y == 2)`, and both are worked out"
+            ": write `or` as a sum, `(x == 1) + (y == 2)`, of which both sides are evaluated"
         }
         (_, [b'.', ..]) => dot_words(front, rest),
-        ([.., b'='], [b'!', ..]) => ": `x != y` is 1 where they differ",
+        ([.., b'='], [b'!', ..]) => ": `x != y` is 1 if they differ",
         ([.., last], [b'!' | b'?' | b'\'', ..]) if is_name_byte(*last) => "",
         (_, [b'!', next, ..]) if is_name_byte(*next) || *next == b'(' => {
-            ": `x == 0` is 1 where x is 0, and 0 elsewhere"
+            ": `x == 0` is 1 if x is 0, else 0"
         }
-        (_, [b'"' | b'\'', ..]) => ": there are no texts, and values are whole numbers",
-        (_, [b'?', ..]) => ": an `if` is a statement, and no value: `if .. { .. } else { .. }`",
+        (_, [b'"' | b'\'', ..]) => ": there are no strings, all values are integers",
+        (_, [b'?', ..]) => ": an `if` is a statement, not a value: `if .. { .. } else { .. }`",
         _ => "",
     }
 }
@@ -261,12 +242,12 @@ fn other_words(front: &[u8], rest: &[u8]) -> &'static str {
 fn dot_words(front: &[u8], rest: &[u8]) -> &'static str {
     let of_loop = has_word(last_line(front), b"for");
     match (front, rest) {
-        (_, [_, b'.', ..]) if of_loop => ": the one loop there is: `repeat N { .. }`",
-        ([.., digit], _) if digit.is_ascii_digit() => ": values are whole numbers",
+        (_, [_, b'.', ..]) if of_loop => ": the only loop is `repeat N { .. }`",
+        ([.., digit], _) if digit.is_ascii_digit() => ": values are integers",
         ([.., last], [_, next, ..]) if is_name_byte(*last) && is_name_byte(*next) => {
             ": a name has no members"
         }
-        (_, [_, digit, ..]) if digit.is_ascii_digit() => ": values are whole numbers",
+        (_, [_, digit, ..]) if digit.is_ascii_digit() => ": values are integers",
         (_, [_] | [_, b'\n' | b'\r', ..]) => ": a statement ends with `;`",
         _ => "",
     }

@@ -5,7 +5,7 @@ use std::alloc::{AllocError, Global};
 
 /// What a name is declared as.
 #[derive(Clone, Copy)]
-pub(crate) enum Thing {
+pub enum Thing {
     Cown,
     Array,
     /// A def that takes so many arguments and cowns.
@@ -17,7 +17,7 @@ pub(crate) enum Thing {
 
 impl Thing {
     /// What it is called.
-    pub(crate) fn called(self) -> &'static str {
+    pub fn called(self) -> &'static str {
         match self {
             Thing::Cown => "a cown",
             Thing::Array => "an array of cowns",
@@ -31,7 +31,7 @@ impl Thing {
 
 /// A name that is declared.
 #[derive(Clone, Copy)]
-pub(crate) struct Declaration<'a> {
+pub struct Declaration<'a> {
     pub name: Word<'a>,
     pub thing: Thing,
 }
@@ -52,7 +52,7 @@ enum Spot {
 }
 
 /// The cowns and defs of a text.
-pub(crate) fn top_names<'a>(
+pub fn top_names<'a>(
     alloc: Global,
     words: &[Word<'a>],
 ) -> Result<Vec<Declaration<'a>>, AllocError> {
@@ -114,7 +114,7 @@ fn next_spot(spot: Spot, word: &Word<'_>) -> Spot {
 }
 
 /// The parameters and locals of the body in which a place stands, also those behind the place.
-pub(crate) fn body_names<'a>(
+pub fn body_names<'a>(
     alloc: Global,
     words: &[Word<'a>],
     at: usize,
@@ -144,7 +144,7 @@ pub(crate) fn body_names<'a>(
 }
 
 /// The first declaration of a name, but for one at this place.
-pub(crate) fn declared_as<'a>(
+pub fn declared_as<'a>(
     names: &[Declaration<'a>],
     name: &[u8],
     at: usize,

@@ -1,12 +1,13 @@
 // Runs that come to more behaviours than there may be.
 
-use crate::said::{Part, Said};
-use crate::tokens::{Word, words_of};
-use crate::view::line_number;
 use boc_draws::{Depth, DrawFault, way_of};
 use boc_program::limits::{MOST_ROWS, MOST_RUNNERS};
+use boc_progress::Silent;
 use boc_reader::read_program;
 use boc_registers::compiled::CompiledProgram;
+use boc_said::said::{Part, Said};
+use boc_said::tokens::{Word, words_of};
+use boc_said::view::line_number;
 use std::alloc::{AllocError, Global};
 
 // A `when` of a text: the number of the body in which it stands, that of the def that it names, and where. Main has the number 0.
@@ -37,7 +38,7 @@ pub fn explain_behaviours(
     said.line(&[
         Part::Words("a run has at most "),
         Part::Number(MOST_ROWS as u64),
-        Part::Words(" behaviours, main among them, and this one comes to more"),
+        Part::Words(" behaviours, main included, and this one has more"),
     ])?;
     if let Some(drawn) = drawn {
         put_draw(alloc, &mut said, program, drawn)?;
@@ -47,20 +48,20 @@ pub fn explain_behaviours(
     let spawns = spawns_of(alloc, &words, &names)?;
     match first_again(alloc, &names, &spawns)? {
         Some(spawn) => put_again(&mut said, program, &names, spawn)?,
-        None => said.line(&[Part::Words(
-            "no def spawns itself again, so it is by `repeat`: a `when` in one spawns a behaviour in each turn",
-        )])?,
+        None => said.words(
+            "no def spawns itself: look for a `when` in a `repeat`, and for defs that each spawn several others",
+        )?,
     }
     Ok(said.into_text())
 }
 
 // The draw that counts the steps comes to too many behaviours.
 const COUNTING: &str =
-    "for --depth a draw by seed 0 counts the steps: it is this draw that comes to more, and none at this depth was begun";
+    "for --depth a run with seed 0 counts the steps first: that run has more, so none was started at this depth";
 
 // That one doesn't.
 const COUNTED: &str =
-    "for --depth a draw by seed 0 counts the steps: that one doesn't come to more, and one at this depth does";
+    "for --depth a run with seed 0 counts the steps first: that run has no more, but one at this depth has";
 
 // Tells which draw comes to too many behaviours: that which counts the steps, or one at the depth for which they are counted.
 fn put_draw(
@@ -77,12 +78,12 @@ fn put_draw(
         return Ok(());
     }
     let compiled = CompiledProgram::new(alloc, &program)?;
-    let told = match way_of(alloc, &compiled, workers, Some(depth)) {
+    let told = match way_of(alloc, &compiled, workers, Some(depth), &mut Silent) {
         Ok(_) => COUNTED,
         Err(DrawFault::Behaviours) => COUNTING,
         Err(DrawFault::Memory) => return Err(AllocError),
     };
-    said.line(&[Part::Words(told)])
+    said.words(told)
 }
 
 // The names of main and of the defs.
@@ -185,16 +186,15 @@ fn put_again(
     let (way, other) = if spawn.by == spawn.of {
         (Part::Words(""), Part::Words(""))
     } else {
-        (Part::Words(" by way of "), Part::Quote(of))
+        (Part::Words(" through "), Part::Quote(of))
     };
     said.line(&[
-        Part::Words("it may be by "),
         Part::Quote(by),
-        Part::Words(", which spawns itself again"),
+        Part::Words(" may spawn itself too often"),
         way,
         other,
         Part::Words(", by the `when` on line "),
         line,
-        Part::Words(": one behaviour more each time, until a condition ends that"),
+        Part::Words(": check the condition that ends it"),
     ])
 }

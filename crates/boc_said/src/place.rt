@@ -1,6 +1,7 @@
 // Which text a fault is in.
 
 use crate::said::{Part, Said};
+use crate::view::first_line;
 use std::alloc::AllocError;
 
 /// The bytes of a text, as far as they were kept.
@@ -9,6 +10,8 @@ pub struct Text<'a> {
     pub bytes: &'a [u8],
     /// These are all of its bytes.
     pub whole: bool,
+    /// The name of its file as it is printed, if it comes from one.
+    pub name: Option<&'a str>,
 }
 
 /// The file beside an input.
@@ -37,29 +40,38 @@ pub struct Place<'a> {
 
 impl Place<'_> {
     /// One of the two texts is a program, and the other its record.
-    pub(crate) fn is_of_pair(&self) -> bool {
+    pub fn is_of_pair(&self) -> bool {
         matches!(self.beside, Some(Beside::Program | Beside::Record))
     }
 }
 
 /// Where a command reads a program and its record from, where the program, or else the record, comes from the file beside the input: the words behind
 /// the command's name, each of the two times that it is told.
-pub(crate) fn pair_words(beside_is_program: bool) -> (&'static str, &'static str) {
+pub fn pair_words(beside_is_program: bool) -> (&'static str, &'static str) {
     if beside_is_program {
         (
-            " reads the record, and --program its program: boc ",
+            " reads the record, and --program its program: ",
             " --program PROGRAM RECORD",
         )
     } else {
         (
-            " reads the program, and --record its record: boc ",
+            " reads the program, and --record its record: ",
             " --record RECORD PROGRAM",
         )
     }
 }
 
-/// Tells of a text that looks like one of a program and its record, and stands where the other is wanted, which of the two stands where.
-pub(crate) fn put_pair<'a>(
+// What is written before a command: `boc`, unless it is one of `boc-view`, which begins with that name.
+fn program_of(command: &str) -> &'static str {
+    if command.as_bytes().starts_with(b"boc-view") {
+        ""
+    } else {
+        "boc "
+    }
+}
+
+/// Appends which of a program and its record goes where, for a text that looks like the other one.
+pub fn put_pair<'a>(
     said: &mut Said,
     place: Place<'a>,
     found: &'a str,
@@ -73,6 +85,7 @@ pub(crate) fn put_pair<'a>(
         Part::Words("; "),
         Part::Words(place.command),
         Part::Words(both),
+        Part::Words(program_of(place.command)),
         Part::Words(place.command),
         Part::Words(words),
     ])?;
@@ -82,19 +95,19 @@ pub(crate) fn put_pair<'a>(
     said.line(&[
         Part::Words("the other file looks like a "),
         Part::Words(wanted),
-        Part::Words(": the two stand the other way round"),
+        Part::Words(": swap the two"),
     ])
 }
 
 /// A text begins as that of a record does.
-pub(crate) fn looks_like_record(text: &[u8]) -> bool {
+pub fn looks_like_record(text: &[u8]) -> bool {
     matches!(text, [b'b', b'o', b'c', b' ', b'0'..=b'9', ..])
 }
 
 /// A line of a text is that of a start: a record has one for each of its rows, and hardly any program.
-pub(crate) fn has_start(text: &[u8]) -> bool {
+pub fn has_start(text: &[u8]) -> bool {
     text.split(|byte| *byte == b'\n').any(|line| match line {
-        [b'>', b' ', row @ ..] => is_number(without_return(row)),
+        [b'>', b' ', row @ ..] => is_number(first_line(row)),
         _ => false,
     })
 }
@@ -104,16 +117,8 @@ fn is_number(word: &[u8]) -> bool {
     !word.is_empty() && word.iter().all(|byte| byte.is_ascii_digit())
 }
 
-// A line without the carriage return at its end.
-fn without_return(line: &[u8]) -> &[u8] {
-    match line {
-        [begin @ .., b'\r'] => begin,
-        _ => line,
-    }
-}
-
 /// The first line that says something is one of a program, a comment or its first declaration, and none is that of a start.
-pub(crate) fn looks_like_program(text: &[u8]) -> bool {
+pub fn looks_like_program(text: &[u8]) -> bool {
     if has_start(text) {
         return false;
     }
@@ -128,7 +133,7 @@ pub(crate) fn looks_like_program(text: &[u8]) -> bool {
 }
 
 /// The first line that says something is one of a names file.
-pub(crate) fn looks_like_names(text: &[u8]) -> bool {
+pub fn looks_like_names(text: &[u8]) -> bool {
     let first = text
         .split(|byte| matches!(*byte, b'\n' | b'\r'))
         .find(|line| !line.is_empty() && !line.starts_with(b"#"));
@@ -136,9 +141,25 @@ pub(crate) fn looks_like_names(text: &[u8]) -> bool {
 }
 
 /// A declaration of a program begins with this word.
-pub(crate) fn is_first_word(word: &[u8]) -> bool {
+pub fn is_first_word(word: &[u8]) -> bool {
     word == b"cown".as_slice()
         || word == b"def".as_slice()
         || word == b"main".as_slice()
         || word == b"main{".as_slice()
+}
+
+/// Tells that a text has no bytes.
+pub fn put_nothing(said: &mut Said, text: Text<'_>) -> Result<(), AllocError> {
+    said.words(if text.name.is_some() {
+        "the file is empty"
+    } else {
+        "the input is empty; if it comes from a pipe, did the command before it fail?"
+    })
+}
+
+/// Tells that names stand where a program or a record is wanted.
+pub fn put_names_file(said: &mut Said) -> Result<(), AllocError> {
+    said.words(
+        "this looks like a names file; pass it with --names, and a program or a record as FILE",
+    )
 }

@@ -1,20 +1,28 @@
 // The lines of an explanation as they are formed.
 
+use crate::place::Text;
 use itoa::Buffer;
 use std::alloc::{AllocError, Global};
+use std::mem;
 
-// What stands in front of each line.
+// Each line begins with this, except one that names a file.
 const INDENT: &str = "     ";
+
+// A message that follows a place on its line keeps one blank of its indent.
+const REST_OF_INDENT: &str = "    ";
+
+// The most bytes of a line that has both, with its line feed.
+const MOST_FED: usize = 161;
 
 // The most bytes of a line behind its indent, without its line feed.
 const MOST_WIDTH: usize = 155;
 
 /// The most bytes of a text that are shown in quotes.
-pub(crate) const MOST_QUOTE: usize = 64;
+pub const MOST_QUOTE: usize = 64;
 
 /// A part of a line.
 #[derive(Clone, Copy)]
-pub(crate) enum Part<'a> {
+pub enum Part<'a> {
     /// Words of the explanation's own.
     Words(&'a str),
     /// A number, in plain decimals.
@@ -31,28 +39,73 @@ pub(crate) enum Part<'a> {
 
 /// The lines so far.
 #[derive(Drop)]
-pub(crate) struct Said {
+pub struct Said {
+    alloc: Global,
     text: String,
     // How many more bytes the last line takes.
     room: usize,
+    // The name of the file with the fault, if it is known, until a line has it.
+    name: Option<String>,
+    /// The line and the column of the fault in that file, both counted from 1.
+    pub place: (u64, usize),
 }
 
 impl Said {
-    /// No lines yet.
-    pub(crate) fn new(alloc: Global) -> Said {
+    /// No lines yet, of a fault that is in no file.
+    pub fn new(alloc: Global) -> Said {
         Said {
+            alloc,
             text: String::new(alloc),
             room: 0,
+            name: None,
+            place: (1, 1),
         }
     }
 
+    /// No lines yet, of a fault on this line of a text.
+    pub fn of(alloc: Global, text: Text<'_>, line: u64) -> Result<Said, AllocError> {
+        let mut said = Said::new(alloc);
+        said.place = (line, 1);
+        if let Some(name) = text.name {
+            said.name = Some(String::from_str(alloc, name)?);
+        }
+        Ok(said)
+    }
+
     /// The lines, each with its line feed.
-    pub(crate) fn into_text(self) -> String {
+    pub fn into_text(self) -> String {
         self.text
     }
 
-    /// Puts a line of these parts behind the others. What doesn't fit in a line is left out.
-    pub(crate) fn line(&mut self, parts: &[Part<'_>]) -> Result<(), AllocError> {
+    /// Appends a line of these parts. The first one of a named file comes before the lines that are shown of it, and begins with its place there.
+    pub fn line(&mut self, parts: &[Part<'_>]) -> Result<(), AllocError> {
+        let Some(name) = self.name.take() else {
+            return self.shown(parts);
+        };
+        let shown = mem::replace(&mut self.text, String::new(self.alloc));
+        self.shown(parts)?;
+        let (line, column) = self.place;
+        let head = format!(in self.alloc; "{name}:{line}:{column}:")?;
+        let message = mem::replace(&mut self.text, head);
+        match message.strip_prefix(REST_OF_INDENT) {
+            Some(rest) if self.text.len().saturating_add(rest.len()) <= MOST_FED => {
+                self.text.push_str(rest)?;
+            }
+            _ => {
+                self.text.push('\n')?;
+                self.text.push_str(&message)?;
+            }
+        }
+        self.text.push_str(&shown)
+    }
+
+    /// Appends a line of these words, as `line` does.
+    pub fn words(&mut self, words: &str) -> Result<(), AllocError> {
+        self.line(&[Part::Words(words)])
+    }
+
+    /// Appends a line of these parts, which shows a text. What doesn't fit in a line is left out.
+    pub fn shown(&mut self, parts: &[Part<'_>]) -> Result<(), AllocError> {
         self.text.push_str(INDENT)?;
         self.room = MOST_WIDTH;
         for part in parts {

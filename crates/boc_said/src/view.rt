@@ -14,13 +14,14 @@ const DOTS: &[u8] = b"..";
 const BLANKS: &[u8] = &[b' '; MOST_FRONT];
 
 /// Puts the line in which a byte stands, cut to 120 bytes round the place, and a line with a caret under it.
-pub(crate) fn put_place(said: &mut Said, text: &[u8], at: usize) -> Result<(), AllocError> {
+pub fn put_place(said: &mut Said, text: &[u8], at: usize) -> Result<(), AllocError> {
     let (front, back) = text.split_at(at.min(text.len()));
     let front = last_line(front);
     let back = first_line(back);
+    said.place = (line_number(text, at), front.len().saturating_add(1));
     let (front_dots, front) = shown_front(front);
     let (back, back_dots) = shown_back(back);
-    said.line(&[
+    said.shown(&[
         Part::Bytes(front_dots),
         Part::Bytes(front),
         Part::Bytes(back),
@@ -28,7 +29,7 @@ pub(crate) fn put_place(said: &mut Said, text: &[u8], at: usize) -> Result<(), A
     ])?;
     let column = front_dots.len().saturating_add(front.len());
     let (blanks, _) = BLANKS.split_at(column.min(BLANKS.len()));
-    said.line(&[Part::Bytes(blanks), Part::Words("^")])
+    said.shown(&[Part::Bytes(blanks), Part::Words("^")])
 }
 
 // What is shown of a line in front of a place.
@@ -52,7 +53,7 @@ fn shown_back(back: &[u8]) -> (&[u8], &[u8]) {
 }
 
 /// What stands behind the last line feed.
-pub(crate) fn last_line(text: &[u8]) -> &[u8] {
+pub fn last_line(text: &[u8]) -> &[u8] {
     match text.iter().rposition(|byte| *byte == b'\n') {
         Some(feed) => text.split_at(feed.saturating_add(1).min(text.len())).1,
         None => text,
@@ -60,7 +61,7 @@ pub(crate) fn last_line(text: &[u8]) -> &[u8] {
 }
 
 /// What stands in front of the first line feed, and of a carriage return before it.
-pub(crate) fn first_line(text: &[u8]) -> &[u8] {
+pub fn first_line(text: &[u8]) -> &[u8] {
     let line = match text.iter().position(|byte| *byte == b'\n') {
         Some(feed) => text.split_at(feed.min(text.len())).0,
         None => text,
@@ -72,7 +73,7 @@ pub(crate) fn first_line(text: &[u8]) -> &[u8] {
 }
 
 /// The number of the line in which a byte stands, counted from 1.
-pub(crate) fn line_number(text: &[u8], at: usize) -> u64 {
+pub fn line_number(text: &[u8], at: usize) -> u64 {
     let (front, _) = text.split_at(at.min(text.len()));
     let feeds = front.iter().filter(|byte| **byte == b'\n').count();
     (feeds as u64).saturating_add(1)

@@ -1,10 +1,10 @@
 // Other numbers of arguments, cowns and indices than are asked for, and more of something than there may be.
 
-use crate::declared::{Thing, body_names, declared_as, top_names};
-use crate::said::{Part, Said};
-use crate::tokens::Word;
-use crate::view::line_number;
 use boc_program::limits::MOST_ARGUMENTS;
+use boc_said::declared::{Thing, body_names, declared_as, top_names};
+use boc_said::said::{Part, Said};
+use boc_said::tokens::Word;
+use boc_said::view::line_number;
 use std::alloc::{AllocError, Global};
 
 /// Tells what a def takes and what it is given, or whether a cown takes an index.
@@ -37,7 +37,7 @@ pub(crate) fn put_wrong_count(
                 Part::Many(arguments, "argument"),
                 Part::Words(" and "),
                 Part::Many(cowns, "cown"),
-                Part::Words(", and is given "),
+                Part::Words(", but is given "),
                 Part::Number(given),
                 Part::Words(" and "),
                 Part::Number(held),
@@ -47,7 +47,7 @@ pub(crate) fn put_wrong_count(
             name,
             Part::Words(" is an array, declared on line "),
             line,
-            Part::Words(": an index is asked for, as in `"),
+            Part::Words(": it needs an index, such as `"),
             Part::Bytes(word.bytes),
             Part::Words("[0]`"),
         ]),
@@ -57,7 +57,7 @@ pub(crate) fn put_wrong_count(
             Part::Words(thing.called()),
             Part::Words(", declared on line "),
             line,
-            Part::Words(", and no array: it takes no index"),
+            Part::Words(", not an array: it takes no index"),
         ]),
     }
 }
@@ -111,18 +111,18 @@ pub(crate) fn put_too_many(
     let (told, way_out) = if here.is_some_and(|word| word.is(b"def")) {
         (
             "a program has at most 64 defs",
-            "one def can do what several do: a value says which of them, and `if` chooses",
+            "merge some of them: pass a value that says which one is meant, and choose with `if`",
         )
     } else if last.is_some_and(|word| word.is(b"cown"))
         || last_but_one.is_some_and(|word| word.is(b"cown"))
     {
         (
-            "a program has at most 256 cowns, the members of arrays counted",
-            "for the order of behaviours one cown can stand for several that are always held together",
+            "a program has at most 256 cowns, members of arrays included",
+            "use one cown for several that are always held together: the order of behaviours stays the same",
         )
     } else if commas_before(words, at) == MOST_COMMAS {
         (
-            "at most 8 parameters of each kind, value arguments of a `when` and cowns of a `when`",
+            "a def has at most 8 value parameters and 8 cown parameters, and a `when` as many arguments",
             HANDED_ON,
         )
     } else {
@@ -131,13 +131,13 @@ pub(crate) fn put_too_many(
             HANDED_ON,
         )
     };
-    said.line(&[Part::Words(told)])?;
-    said.line(&[Part::Words(way_out)])
+    said.words(told)?;
+    said.words(way_out)
 }
 
 // What a body can do that has too many values, cowns or nodes.
 const HANDED_ON: &str =
-    "a body can hand values on to another behaviour that it spawns by `when`, which runs later, over cowns of its own";
+    "move some of it to another behaviour: spawn that with `when`; it runs later, over cowns of its own";
 
 // How many commas stand in a list in front of what is too much; a behaviour has as many cowns as values.
 const MOST_COMMAS: usize = MOST_ARGUMENTS;

@@ -4,24 +4,24 @@ use std::alloc::{AllocError, Global};
 
 /// A token of a text, and the place of its first byte.
 #[derive(Clone, Copy)]
-pub(crate) struct Word<'a> {
+pub struct Word<'a> {
     pub bytes: &'a [u8],
     pub at: usize,
 }
 
 impl Word<'_> {
     /// The place behind it.
-    pub(crate) fn end(&self) -> usize {
+    pub fn end(&self) -> usize {
         self.at.saturating_add(self.bytes.len())
     }
 
     /// It is this one.
-    pub(crate) fn is(&self, bytes: &[u8]) -> bool {
+    pub fn is(&self, bytes: &[u8]) -> bool {
         self.bytes == bytes
     }
 
     /// It is a name, and no keyword.
-    pub(crate) fn is_name(&self) -> bool {
+    pub fn is_name(&self) -> bool {
         match self.bytes {
             [first, ..] => {
                 is_name_byte(*first) && !first.is_ascii_digit() && !is_keyword(self.bytes)
@@ -32,17 +32,17 @@ impl Word<'_> {
 }
 
 /// The keywords of the language.
-pub(crate) const KEYWORDS: [&[u8]; 9] = [
+pub const KEYWORDS: [&[u8]; 9] = [
     b"cown", b"def", b"main", b"let", b"work", b"if", b"else", b"repeat", b"when",
 ];
 
 /// It is a keyword.
-pub(crate) fn is_keyword(word: &[u8]) -> bool {
+pub fn is_keyword(word: &[u8]) -> bool {
     KEYWORDS.iter().any(|keyword| *keyword == word)
 }
 
 /// A byte of which names, keywords and numbers are made.
-pub(crate) fn is_name_byte(byte: u8) -> bool {
+pub fn is_name_byte(byte: u8) -> bool {
     byte.is_ascii_alphanumeric() || byte == b'_'
 }
 
@@ -61,12 +61,12 @@ fn front_len(text: &[u8]) -> usize {
 }
 
 /// How many name bytes stand at the front of a text.
-pub(crate) fn run_len(text: &[u8]) -> usize {
+pub fn run_len(text: &[u8]) -> usize {
     text.iter().take_while(|byte| is_name_byte(**byte)).count()
 }
 
 /// The tokens of a text in their order, without blanks and comments.
-pub(crate) fn words_of(alloc: Global, text: &[u8]) -> Result<Vec<Word<'_>>, AllocError> {
+pub fn words_of(alloc: Global, text: &[u8]) -> Result<Vec<Word<'_>>, AllocError> {
     let mut words = Vec::new(alloc);
     let mut rest = text;
     for _ in 0..text.len() {

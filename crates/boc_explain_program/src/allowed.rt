@@ -1,7 +1,7 @@
 // Which tokens are allowed at a place of a text, found by reading it with each of them there.
 
-use crate::said::Part;
 use boc_reader::{ReadFaultKind, read_program};
+use boc_said::said::Part;
 use std::alloc::{AllocError, Global};
 
 // The name and the number that are tried, for all of them.

@@ -3,6 +3,7 @@
 A reader that goes away is a sink that fails, so it is told as a device with the status 5, and no signal ends the
 program. Python starts its children with the usual answer to that signal, to end, so the program has to see to it.
 """
+import dataclasses
 import os
 import subprocess
 import tempfile
@@ -71,7 +72,7 @@ def long_outputs(program):
     yield "profile: a slow reader", fault_of(expected, run_with_reader(program, words, source, slowly=True))
     answer = run_with_reader(program, words, source, slowly=False)
     begins = expected.output.startswith(answer.output)
-    yield "profile: a reader that goes away", fault_of(DEVICE, answer._replace(output=b""))
+    yield "profile: a reader that goes away", fault_of(DEVICE, dataclasses.replace(answer, output=b""))
     yield "profile: what went out", None if begins else "it is no beginning of the report"
 
 
@@ -113,7 +114,7 @@ def run_on_files(program, words, source):
         given.seek(0)
         answer = program.run(words, stdin=given, stdout=made)
         made.seek(0)
-        return answer._replace(output=made.read())
+        return dataclasses.replace(answer, output=made.read())
 
 
 def run_in_pieces(program, words, source, size):

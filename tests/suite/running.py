@@ -2,11 +2,13 @@
 
 A case is a name and a fault: None where it passed, else what was wrong.
 """
+import dataclasses
 import os
+import re
 import subprocess
 import sys
 import tempfile
-from typing import NamedTuple, Optional
+from typing import Optional
 
 # A run that takes longer hangs. A sweep over as many rows as there may be takes the longest.
 SECONDS = 600
@@ -25,12 +27,14 @@ MOST_MEMORY = 64 * 1024
 MOST_ASKED = 256 * 1024
 
 
-class Answer(NamedTuple):
-    """What came of a run. What it noted stands apart from its other lines on standard error; None is no matter of the test."""
+@dataclasses.dataclass(frozen=True)
+class Answer:
+    """What came of a run. What it noted stands apart from its other lines on standard error; None is no matter of the test. Its words may name files."""
     status: int
     output: bytes
     errors: bytes
     notes: Optional[bytes] = None
+    words: tuple = dataclasses.field(default=(), compare=False)
 
 
 def done(output, notes=None):
@@ -89,7 +93,7 @@ class Program:
             run = subprocess.run(command, stderr=subprocess.PIPE, timeout=timeout, **options)
         except subprocess.TimeoutExpired:
             return None
-        return Answer(run.returncode, run.stdout or b"", *told(run.stderr))
+        return Answer(run.returncode, run.stdout or b"", *told(run.stderr), tuple(command))
 
 
 # Runs a command within these seconds and kilobytes, and writes to a pipe how many kilobytes it used. What a process uses counts from its fork on, so the
@@ -115,26 +119,33 @@ def measured(command, seconds, asked, source=b""):
         words = [sys.executable, "-S", "-c", MEASURE, *map(str, (writing, seconds, asked)), *command]
         run = subprocess.run(words, input=source, capture_output=True, pass_fds=[writing], check=False)
         os.close(writing)
-        return Answer(run.returncode, run.stdout, *told(run.stderr)), int(pipe.read() or b"0")
+        return Answer(run.returncode, run.stdout, *told(run.stderr), tuple(command)), int(pipe.read() or b"0")
 
 
 def fault_of(expected, answer):
     """What is wrong with an answer, or None."""
     if answer is None:
         return "it did not end in time"
-    for part in Answer._fields:
+    for part in ("status", "output", "errors", "notes"):
         wanted, got = getattr(expected, part), getattr(answer, part)
         if part == "errors" and wanted:
-            got = without_explanation(got, wanted.count(b"\n"))
+            got = without_explanation(got, wanted.count(b"\n"), answer.words)
         if None not in (wanted, got) and wanted != got:
             return f"its {part}: {difference(wanted, got)}"
     return None
 
 
-def without_explanation(errors, count):
-    """What was written to standard error, without the lines that explain a fault behind the first ones."""
+def without_explanation(errors, count, words):
+    """What was written to standard error, without the lines after the first ones that explain a fault: one names a place in a file of these words."""
+    names = b"|".join(re.escape(printed(name)) for word in words for name in (word, word[word.find("=") + 1:]))
+    explains = re.compile(rb"%s|(?:%s):\d+:\d+:[ \n]" % (EXPLAINS, names))
     lines = errors.splitlines(keepends=True)
-    return b"".join(lines[:count] + [line for line in lines[count:] if not line.startswith(EXPLAINS)])
+    return b"".join(lines[:count] + [line for line in lines[count:] if not explains.match(line)])
+
+
+def printed(name):
+    """The bytes by which a name is printed."""
+    return re.sub(rb"[^ -~]", b"?", os.fsencode(name))
 
 
 def difference(wanted, got):

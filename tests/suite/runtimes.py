@@ -3,6 +3,7 @@
 A copy is planted by replacing one place of its source. What is wrong with its record, and at which line, is worked out by record_reader.
 `check` says of each record in docs/RECORDING.md what the line below it has.
 """
+import dataclasses
 import os
 import re
 import shutil
@@ -140,7 +141,7 @@ def fault_of_parts(program, record):
 def fault_of_refusal(line, answer):
     """A record is refused by this line; what may stand below it is no matter here."""
     if answer is not None:
-        answer = answer._replace(errors=b"".join(answer.errors.splitlines(keepends=True)[:1]))
+        answer = dataclasses.replace(answer, errors=b"".join(answer.errors.splitlines(keepends=True)[:1]))
     return fault_of(refused(3, line), answer)
 
 

@@ -1,15 +1,16 @@
-//! What is told of a fault behind its line.
+//! What is told below the line of a fault.
 
 use boc_commands::{
-    AskedCown, AskedEdit, Command, Fault, FileFault, InputFault, NamesFrom, RunFile, Schedule,
-    WordsFault,
+    AskedCown, AskedEdit, Command, Fault, InputFault, NamesFrom, RunFile, Schedule, WordsFault,
+    file_named,
 };
 use boc_explain::{
-    Asked, AtDepth, Beside, Kept, Naming, Place, explain_behaviours, explain_cown, explain_def,
-    explain_edit, explain_edit_word, explain_names, explain_program, explain_record, explain_stray,
-    explain_words,
+    Asked, Kept, Naming, explain_cown, explain_def, explain_edit, explain_edit_word, explain_words,
 };
+use boc_explain_program::{AtDepth, explain_behaviours};
+use boc_front::{Sources, drawn_at_depth, explain_input};
 use boc_plans::edit::{Change, Edit, EditFault, Part};
+use boc_said::place::Beside;
 use boc_workers::RunFault;
 use std::alloc::{AllocError, Global};
 
@@ -28,7 +29,7 @@ pub(crate) struct Texts {
     pub beside: Kept,
 }
 
-/// The lines behind the text of a fault of these words, each with its line feed. There may be none.
+/// The lines below the text of a fault of these words, each with its line feed. There may be none.
 pub(crate) fn explained_words(
     alloc: Global,
     words: &[String],
@@ -44,18 +45,21 @@ pub(crate) fn explained_words(
     }
 }
 
-/// The lines behind that of a fault, each with its line feed. There may be none.
+/// The lines below that of a fault, each with its line feed. There may be none. The input comes from the file with this path, if there is one.
 pub(crate) fn explained(
     alloc: Global,
     fault: &Fault,
     command: &Command,
+    path: Option<&String>,
     texts: &Texts,
 ) -> Result<String, AllocError> {
     match fault {
-        Fault::Input(InputFault::Beside(fault)) => {
-            explained_beside(alloc, *fault, command, texts)
+        Fault::Input(InputFault::Cown { number }) => missing_cown(alloc, command, texts, *number),
+        Fault::Input(InputFault::Edit { number, fault }) => {
+            refused_edit(alloc, command, texts, *number, *fault)
         }
-        Fault::Input(fault) => explained_input(alloc, *fault, command, texts),
+        Fault::Input(InputFault::Def { number }) => missing_def(alloc, command, texts, *number),
+        Fault::Input(fault) => explain_input(alloc, *fault, sources_of(command, path, texts)),
         Fault::Run(RunFault::Behaviours) if texts.input.is_whole() => {
             explain_behaviours(alloc, texts.input.as_slice(), depth_of(command))
         }
@@ -65,73 +69,28 @@ pub(crate) fn explained(
 
 // How a command draws runs, if it does so at a depth.
 fn depth_of(command: &Command) -> Option<AtDepth> {
-    let (workers, depth) = match command {
-        Command::Run { schedule, .. }
-        | Command::Time { schedule, .. }
-        | Command::Why { schedule, .. }
-        | Command::Cowns { schedule, .. } => match schedule {
-            Schedule::Drawn { workers, depth, .. } => (*workers, *depth),
-            Schedule::Threads(_) => return None,
-        },
-        Command::Outcomes(draws) => (draws.workers, draws.depth),
-        _ => return None,
-    };
-    Some(AtDepth {
-        workers: workers.number(),
-        depth: depth?,
-    })
-}
-
-// The lines behind that of a fault of the input, or of what is asked of it.
-fn explained_input(
-    alloc: Global,
-    fault: InputFault,
-    command: &Command,
-    texts: &Texts,
-) -> Result<String, AllocError> {
-    let input = texts.input.text();
-    let place = place_of(command, texts, false);
-    match fault {
-        InputFault::Program(fault) => explain_program(alloc, input, place, fault),
-        InputFault::Record(fault) => explain_record(alloc, input, place, fault),
-        InputFault::Stray(fault) => explain_stray(alloc, input, texts.beside.text(), fault),
-        InputFault::Cown { number } => missing_cown(alloc, command, texts, number),
-        InputFault::Edit { number, fault } => refused_edit(alloc, command, texts, number, fault),
-        InputFault::Def { number } => missing_def(alloc, command, texts, number),
-        InputFault::Beside(_) => Ok(String::new(alloc)),
+    match command {
+        Command::Run { schedule, .. } | Command::Time { schedule, .. } => drawn_at_depth(schedule),
+        Command::Why { asked, .. } => drawn_at_depth(&asked.schedule),
+        Command::Cowns { asked, .. } => drawn_at_depth(&asked.schedule),
+        Command::Outcomes(draws) => drawn_at_depth(&Schedule::Drawn {
+            workers: draws.workers,
+            seed: draws.seed,
+            depth: draws.depth,
+        }),
+        _ => None,
     }
 }
 
-// The lines behind that of a fault of the file beside the input.
-fn explained_beside(
-    alloc: Global,
-    fault: FileFault,
-    command: &Command,
-    texts: &Texts,
-) -> Result<String, AllocError> {
-    let input = texts.input.text();
-    let beside = texts.beside.text();
-    let place = place_of(command, texts, true);
-    match fault {
-        FileFault::Program(fault) => explain_program(alloc, beside, place, fault),
-        FileFault::Record(fault) => explain_record(alloc, beside, place, fault),
-        FileFault::Stray(fault) => explain_stray(alloc, beside, input, fault),
-        FileFault::Names(fault) => explain_names(alloc, beside, input, fault),
-    }
-}
-
-// Where the input of a command comes from, or the file beside it.
-fn place_of<'a>(command: &Command, texts: &'a Texts, is_beside: bool) -> Place<'a> {
-    let other = if is_beside {
-        &texts.input
-    } else {
-        &texts.beside
-    };
-    Place {
+// What a command reads, its input from the file with this path, if there is one.
+fn sources_of<'a>(command: &'a Command, path: Option<&'a String>, texts: &'a Texts) -> Sources<'a> {
+    Sources {
         command: name_of(command),
-        beside: beside_of(command),
-        is_beside,
-        other: other.as_slice(),
+        input: &texts.input,
+        input_path: path.map(String::as_str),
+        beside: &texts.beside,
+        beside_path: file_named(command),
+        kind: beside_of(command),
     }
 }
 
@@ -185,7 +144,7 @@ fn missing_cown(
     let Command::WhatIf { cowns, names, .. } = command else {
         return Ok(String::new(alloc));
     };
-    let input = texts.input.text();
+    let input = texts.input.text(None);
     let naming = naming_of(names, texts).unwrap_or(Naming::Numbers);
     match cowns.get(number.saturating_sub(1)) {
         Some(AskedCown::Number(cown)) => {
@@ -216,7 +175,7 @@ fn refused_edit(
         None => return Ok(String::new(alloc)),
     };
     let asked = asked_edits(alloc, edits, number)?;
-    explain_edit(alloc, texts.input.text(), naming, &word, &asked, fault)
+    explain_edit(alloc, texts.input.text(None), naming, &word, &asked, fault)
 }
 
 // So many of the first edits that words ask for.
@@ -274,7 +233,7 @@ fn missing_def(
     };
     match (edits.get(number.saturating_sub(1)), naming_of(names, texts)) {
         (Some(AskedEdit::Def { name, .. }), Some(naming)) => {
-            explain_def(alloc, texts.input.text(), naming, name)
+            explain_def(alloc, texts.input.text(None), naming, name)
         }
         _ => Ok(String::new(alloc)),
     }

@@ -2,19 +2,17 @@
 #![tactic(auto)]
 
 mod explaining;
-mod meter;
 
 use crate::explaining::{Texts, beside_of, explained, explained_words};
-use crate::meter::Meter;
 use boc_commands::{
     Command, Fault, Schedule, Want, WordsFault, file_named, read_words, run_command,
 };
 use boc_explain::{Input, Kept};
 use boc_front::{
-    Given, MOST_INPUT, STACK, idle_note, printed, printed_words, read_beside, words_given,
+    Given, MOST_INPUT, Meter, STACK, Watch, idle_note, printed, printed_words, read_beside,
+    words_given,
 };
 use boc_text::Counted;
-use boc_workers::OpenGate;
 use std::alloc::AllocError;
 use std::fs::File;
 use std::io::{self, Read, Write};
@@ -122,11 +120,12 @@ fn answer<T: Read + Drop>(
     let mut input = Input::new(rt.alloc(), input.take(MOST_INPUT));
     let mut output = Counted::new(rt.stdout());
     let mut meter = Meter::new(rt);
+    let watch = Watch::new(threads, Meter::new(rt));
     let mut notes = Vec::new(rt.alloc());
     let done = run_command(
         threads,
         rt.alloc(),
-        &OpenGate,
+        &watch,
         command,
         beside,
         &mut meter,
@@ -134,6 +133,7 @@ fn answer<T: Read + Drop>(
         &mut input,
         &mut output,
     );
+    watch.wipe();
     meter.wipe();
     let Err(fault) = done else {
         note(rt, &notes);
@@ -148,7 +148,7 @@ fn answer<T: Read + Drop>(
         input,
         beside: kept,
     };
-    let more = explained(rt.alloc(), &fault, command, &texts).ok();
+    let more = explained(rt.alloc(), &fault, command, path, &texts).ok();
     Err(Stop::Fault { fault, more })
 }
 
@@ -164,18 +164,12 @@ fn note_of(command: &Command, given: Given, is_record: bool) -> &'static str {
             quiet: false,
             ..
         } => idle_note(*schedule, &None, given, false),
-        Command::Why {
-            schedule,
-            file,
-            quiet: false,
-            ..
+        Command::Why { asked, file } if !asked.quiet => {
+            idle_note(asked.schedule, file, given, is_record)
         }
-        | Command::Cowns {
-            schedule,
-            file,
-            quiet: false,
-            ..
-        } => idle_note(*schedule, file, given, is_record),
+        Command::Cowns { asked, file } if !asked.quiet => {
+            idle_note(asked.schedule, file, given, is_record)
+        }
         Command::Outcomes(draws) => {
             let schedule = Schedule::Drawn {
                 workers: draws.workers,

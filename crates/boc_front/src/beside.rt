@@ -1,8 +1,8 @@
 // How many bytes of an input can matter, or of a file beside it.
 
-use boc_explain::Beside;
 use boc_names::MOST_NAMES;
 use boc_program::limits::{MOST_ROWS, MOST_TEXT};
+use boc_said::place::Beside;
 use boc_text::MOST_LINE;
 use std::fs::{File, Files};
 use std::io::{self, Read};

@@ -4,15 +4,15 @@ use boc_commands::{RunFile, Schedule};
 
 // What is noted where a record came in.
 const OF_RECORD: &str =
-    "boc: note: the input is a record, which is not run again: --workers and --seed say nothing of it\n";
+    "boc: note: the input is a record, which is not run again: --workers, --seed and --depth have no effect\n";
 
 // What is noted where a record stands beside the program.
 const OF_FILE: &str =
-    "boc: note: the run is that of --record FILE, and the program is not run again: --workers and --seed say nothing of it\n";
+    "boc: note: the run is that of --record FILE, and the program is not run again: --workers, --seed and --depth have no effect\n";
 
 // What is noted where there is one worker.
 const OF_ONE: &str =
-    "boc: note: one worker leaves nothing to draw: --seed and --depth say nothing of it; give --workers at least 2\n";
+    "boc: note: one worker leaves nothing to draw: --seed and --depth have no effect; give --workers at least 2\n";
 
 /// Which of the words that say how a program is run stand on a command line.
 #[derive(Clone, Copy, PartialEq, Eq, Debug)]

@@ -8,25 +8,29 @@ use crate::material::{Material, material_of};
 use crate::wanted::{Picture, Wanted};
 use boc_commands::Fault;
 use boc_commands::named_run::taken;
+use boc_front::Watch;
 use boc_pictures::{
     Page, cowns_text, curve_drawing, curve_text, page_text, plan_drawing, plan_text, trace_text,
     workers_text,
 };
+use boc_progress::Progress;
 use boc_text::Source;
-use boc_workers::OpenGate;
 use std::alloc::{AllocError, Global};
 use std::sync::Wait;
 use std::thread::Threads;
 
 /// The picture of the run that an input tells of, in so many columns where it is a text. The file beside the input, if there is one, has these bytes.
 ///
-/// An input and a file are refused as `boc why` refuses them.
+/// An input and a file are refused as `boc why` refuses them. `watch` sees the threads of a run, and `progress` receives how far a draw or the following of a
+/// record is.
 pub(crate) fn pictured<R: Threads + Wait + Sync, S: Source>(
     rt: &R,
     alloc: Global,
     wanted: &Wanted,
     beside: Vec<u8>,
     width: usize,
+    watch: &Watch<'_, R>,
+    progress: &mut dyn Progress,
     source: &mut S,
 ) -> Result<String, Fault>
     requires { S.failures source.old < u64.MAX }
@@ -34,7 +38,7 @@ pub(crate) fn pictured<R: Threads + Wait + Sync, S: Source>(
     ensures source { CountsSource result (S.failures source.old) (S.failures source.new) }
 {
     let text = taken(alloc, source)?;
-    let material = material_of(rt, alloc, wanted, beside, text, &OpenGate)?;
+    let material = material_of(rt, alloc, wanted, beside, text, watch, progress)?;
     Ok(drawn(alloc, wanted.picture, &material, width)?)
 }
 

@@ -1,6 +1,8 @@
 //! The program `boc-view`: pictures of a run, from a program or a record in a file or on standard input to standard output.
 #![tactic(auto)]
 
+ghost use Rattle.std.specs.Prelude.{◌<◌};
+
 mod answer;
 mod explaining;
 mod material;
@@ -12,9 +14,12 @@ use crate::explaining::explained;
 use crate::wanted::Wanted;
 use crate::words::{Asked, LEAST_COLUMNS, MOST_COLUMNS, read_words};
 use boc_commands::{Fault, RunFile, Want, WordsFault};
-use boc_explain::{Beside, Input, Kept};
-use boc_front::{MOST_INPUT, STACK, idle_note, printed, printed_words, read_beside, words_given};
-use boc_text::{Counted, put_out};
+use boc_explain::{Input, Kept};
+use boc_front::{
+    MOST_INPUT, Meter, STACK, Watch, idle_note, printed, printed_words, read_beside, words_given,
+};
+use boc_said::place::Beside;
+use boc_text::{Counted, Source, put_out};
 use std::alloc::AllocError;
 use std::fs::File;
 use std::io::{Read, Write};
@@ -132,9 +137,8 @@ fn draw<T: Read + Drop>(
     let bytes = file_beside(rt, wanted)?;
     let mut beside = Kept::new(rt.alloc());
     beside.keep(&bytes);
-    let width = columns(rt, wanted);
     let mut input = Input::new(rt.alloc(), input.take(MOST_INPUT));
-    let fault = match pictured(threads, rt.alloc(), wanted, bytes, width, &mut input) {
+    let fault = match text_of(rt, threads, wanted, bytes, &mut input) {
         Ok(text) => {
             put(rt, &text)?;
             let Wanted {
@@ -156,6 +160,34 @@ fn draw<T: Read + Drop>(
     }
     let more = explained(rt.alloc(), &fault, wanted, &input, &beside).ok();
     Err(Stop::Fault { fault, more })
+}
+
+// Returns the text of the picture that is wanted, and shows how far that is while it is made.
+fn text_of<S: Source>(
+    rt: HostRuntime,
+    threads: &(impl Threads + Wait + Sync),
+    wanted: &Wanted,
+    beside: Vec<u8>,
+    source: &mut S,
+) -> Result<String, Fault>
+    requires { S.failures source.old < u64.MAX }
+{
+    let width = columns(rt, wanted);
+    let mut meter = Meter::new(rt);
+    let watch = Watch::new(threads, Meter::new(rt));
+    let text = pictured(
+        threads,
+        rt.alloc(),
+        wanted,
+        beside,
+        width,
+        &watch,
+        &mut meter,
+        source,
+    );
+    watch.wipe();
+    meter.wipe();
+    text
 }
 
 // How many columns a text has: as many as the words say, or as the terminal has, which is told by COLUMNS.

@@ -15,6 +15,7 @@ use boc_greedy::{CurvePoint, Greedy, greedy};
 use boc_pictures::Subject;
 use boc_plans::sharing::Sharing;
 use boc_plans::workers::Workers;
+use boc_progress::Progress;
 use boc_runs::rows::Rows;
 use boc_whatif::WhatIf;
 use boc_workers::Gate;
@@ -56,6 +57,7 @@ pub(crate) fn material_of<R: Threads + Wait + Sync, G: Gate>(
     beside: Vec<u8>,
     text: Vec<u8>,
     gate: &G,
+    progress: &mut dyn Progress,
 ) -> Result<Material, Fault>
     ensures { MatchResult result
         (λ material. IsMaterial wanted.now beside.items text.items material × IsShort text.items)
@@ -67,7 +69,7 @@ pub(crate) fn material_of<R: Threads + Wait + Sync, G: Gate>(
         file: &wanted.file,
         bytes: beside,
     };
-    let run = named_run(rt, alloc, text, origin, gate)?;
+    let run = named_run(rt, alloc, text, origin, gate, progress)?;
     let material = parts_of(rt, alloc, wanted, run, program)?;
     Ok(material)
 }

@@ -27,8 +27,9 @@ The picture goes to standard output.
 What is drawn is the earliest plan of the run: each behaviour (task) starts as
 soon as it is spawned and has its cowns. The chain is the critical path: its
 ticks add up to the span.
-  text   With --cowns, --p or --curve, prints what these show instead. --curve
-         shows the ends of greedy plans for 1, 2, 4 .. workers, up to P.
+  text   Has a line for each of up to 60 behaviours. With --cowns, --curve or
+         --p, prints what the first of these shows instead. --curve shows the
+         ends of greedy plans for 1, 2, 4 .. workers, up to P.
   page   Has the plan, the curve, the chain, what each behaviour and each cown
          costs, and the program.
 
@@ -37,7 +38,7 @@ Exit statuses, as those of boc:
   2  Invalid command-line arguments
   3  Invalid input, or an invalid file given with it
   4  Too many behaviours, or a thread could not be started
-  5  Out of memory, or an I/O error
+  5  Out of memory, a file that cannot be read, or an I/O error
 
 Examples:
   boc-view text program.boc
@@ -98,7 +99,7 @@ fn parser<'a>(alloc: Global) -> Result<Command<'a>, AllocError> {
 // The command that writes text.
 fn text_command<'a>(alloc: Global) -> Result<Command<'a>, AllocError> {
     let command = Command::new(alloc, "text")
-        .about("Print the earliest plan as text, a line per behaviour")
+        .about("Print the earliest plan as text")
         .arg(flag(
             alloc,
             "cowns",
@@ -171,7 +172,7 @@ fn with_common<'a>(alloc: Global, command: Command<'a>) -> Result<Command<'a>, A
                 .long("seed")
                 .value_name("S")
                 .value_parser(value_parser!(u64))
-                .help("Draw a random run of N workers, reproducible by seed S"),
+                .help("Draw a random run from seed S; give -w of 2 or more"),
         )?
         .arg(number(
             alloc,
@@ -185,18 +186,18 @@ fn with_common<'a>(alloc: Global, command: Command<'a>) -> Result<Command<'a>, A
             "p",
             "P",
             MOST_WORKERS,
-            "Show the greedy plan for P workers, 1 to 64",
+            "Show greedy plans for P workers, or up to P, 1 to 64",
         )
         .short('p'))?
         .arg(flag(
             alloc,
             "shared-reads",
-            "In plans, let behaviours that only read a cown share it",
+            "Plan as if rows that only read a cown shared it",
         ))?
         .arg(file(
             alloc,
             "record",
-            "Take the run recorded in FILE instead of a new one",
+            "Take the run that FILE records; run nothing",
         ))?
         .arg(file(alloc, "names", "Read the names of rows and cowns from FILE"))
 }

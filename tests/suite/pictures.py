@@ -283,7 +283,7 @@ def fault_of_drawn_plans(svg, report):
 
 
 def fault_of_drawn_curve(svg, report):
-    found = [tuple(map(int, it)) for it in re.findall(r"<title>workers (\d+): end (\d+), no plan before (\d+), bound (\d+);", svg)]
+    found = [tuple(map(int, it)) for it in re.findall(r"<title>workers (\d+): end (\d+), no plan of this run before (\d+), bound (\d+);", svg)]
     return None if found == report.curve and f"work {report.work}, span {report.span}<" in svg else f"its points are {found}"
 
 
@@ -376,8 +376,8 @@ def fault_of_curve(output, rows):
     found = [line.split()[:6] for line in lines[2:-1]]
     if found != wanted:
         return f"{found} in place of {wanted}"
-    gain = f"more than {enough} worker{'' if enough == 1 else 's'} gain{'s' if enough == 1 else ''} nothing: the plan ends at the span"
-    last = gain if least == model.span(rows) else f"of 1 to 64 workers, {enough} end soonest"
+    gain = f"more than {enough} worker{'' if enough == 1 else 's'} gain{'s' if enough == 1 else ''} nothing in this run: the plan ends at the span"
+    last = gain if least == model.span(rows) else f"no plan for up to 64 workers ends at the span; that for {enough} ends soonest"
     return None if lines[-1] == last else f"the last line is {lines[-1]!r}"
 
 
@@ -604,7 +604,7 @@ def words(view):
         yield f"words: {words_}", None if answer.status == 2 and not answer.output and answer.errors else f"the answer {answer}"
     yield "a faulty program", fault_of(refused(3, "boc: line 1: 5 UnknownName"), view.run(["plan"], b"main { x = 1; }"))
     yield "a faulty record", fault_of(refused(3, "boc: line 1: 1 Header"), view.run(["text"], b"boc 9\n"))
-    told = b"     main { x = 1; }\n            ^\n     no parameter and no `let` of this body is called `x`\n     a local is declared by `let x = ..;`\n"
+    told = b"     main { x = 1; }\n            ^\n     no parameter or `let` of this body is called `x`\n     declare a local with `let x = ..;`\n"
     for words_ in (["plan"], ["page"], ["text", "--cowns"]):
         answer = view.run(words_, b"main { x = 1; }")
         yield f"{words_}: what is told of a fault", None if answer.errors == b"boc: line 1: 5 UnknownName\n" + told else f"it is {answer.errors}"

@@ -148,8 +148,13 @@ fn gain_of(alloc: Global, span: u64, points: &[CurvePoint]) -> Result<String, Al
         } else {
             "workers gain"
         };
-        format!(in alloc; "more than {enough} {gain} nothing: the plan ends at the span")
+        format!(in alloc;
+            "more than {enough} {gain} nothing in this run: the plan ends at the span"
+        )
     } else {
-        format!(in alloc; "of 1 to {} workers, {enough} end soonest", points.len())
+        format!(in alloc;
+            "no plan for up to {} workers ends at the span; that for {enough} ends soonest",
+            points.len()
+        )
     }
 }

@@ -187,7 +187,7 @@ fn put_dots(
         )?;
         writeln!(
             text,
-            "<title>workers {}: end {}, no plan before {}, bound {}; {}.{:02} times faster than one</title></circle>",
+            "<title>workers {}: end {}, no plan of this run before {}, bound {}; {}.{:02} times faster than one</title></circle>",
             point.workers,
             point.end,
             point.low,
@@ -204,7 +204,7 @@ fn put_key(text: &mut String) -> Result<(), AllocError> {
     let y = HEIGHT - 150;
     let line = Tenths(y - 40);
     writeln!(text, "<path class=\"least\" d=\"M10 {line}h30\"/>")?;
-    put_text(text, "small", 480, y, "no plan is faster")?;
+    put_text(text, "small", 480, y, "no faster plan of this run")?;
     writeln!(text, "<path class=\"greedy\" d=\"M220 {line}h30\"/>")?;
     put_text(text, "small", 2_580, y, "the greedy plan")?;
     writeln!(text, "<path class=\"bound\" d=\"M410 {line}h30\"/>")?;

@@ -46,7 +46,7 @@ pub fn cowns_text(alloc: Global, subject: &Subject, width: usize) -> Result<Stri
         put_cown(alloc, &mut text, subject, *held, &letters, columns, label)?;
     }
     if all > held.len() {
-        writeln!(text, "{} more cowns are held for less", all - held.len())?;
+        writeln!(text, "{} more cowns are held no longer", all - held.len())?;
     }
     Ok(text)
 }

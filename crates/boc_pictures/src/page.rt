@@ -116,8 +116,8 @@ fn put_cowns(alloc: Global, text: &mut String, page: &Page) -> Result<(), AllocE
         )?;
     }
     text.push_str(
-        "</tbody></table>\n<p>held: the ticks for which one row alone has it; waited: the ticks from a spawn to a start; \
-         without: the span if it ordered nobody.</p>\n",
+        "</tbody></table>\n<p>held: the ticks for which one row alone has it; waited: the ticks that rows wait for the row that \
+         hands it to them; without: the span if it imposed no order, and all other orders stayed.</p>\n",
     )
 }
 

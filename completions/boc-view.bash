@@ -1,11 +1,15 @@
-# Completion of `boc-view` for bash: its commands, the options of each, and files. Numbers are not completed.
+# Completion of `boc-view` for bash: its commands, the options of each, and files. Numbers and names of cowns are not completed.
+# Written by bin/pages from bin/lib/pages.toml. Change that, and run it again.
 
 # The options of a command, or of none.
 _boc_view_options() {
     case $1 in
     '') echo -h --help -V --version ;;
     text) echo -h --help --cowns --curve --width -w --workers --seed --depth -p --p --shared-reads --record --names ;;
-    plan | curve | page | trace) echo -h --help -w --workers --seed --depth -p --p --shared-reads --record --names ;;
+    plan) echo -h --help -w --workers --seed --depth -p --p --shared-reads --record --names ;;
+    curve) echo -h --help -w --workers --seed --depth -p --p --shared-reads --record --names ;;
+    page) echo -h --help -w --workers --seed --depth -p --p --shared-reads --record --names ;;
+    trace) echo -h --help -w --workers --seed --depth -p --p --shared-reads --record --names ;;
     esac
 }
 
@@ -29,7 +33,7 @@ _boc_view() {
         *) command=${command:-${COMP_WORDS[at]}} ;;
         esac
     done
-    # bash takes `--record=FILE` for three words.
+    # bash takes `--record=FILE` and `2=1` for three words.
     if [[ $current == = ]]; then
         current=
         [[ $option == -* ]] || return

@@ -1,4 +1,5 @@
 # Completion of `boc` for bash: its commands, the options of each, and files. Numbers and names of cowns are not completed.
+# Written by bin/pages from bin/lib/pages.toml. Change that, and run it again.
 
 # The options of a command, or of none.
 _boc_options() {
@@ -9,11 +10,11 @@ _boc_options() {
     run) echo -h --help -w --workers --seed --depth --quiet ;;
     profile) echo -h --help -p --p --shared-reads --no-plan --quiet ;;
     time) echo -h --help -w --workers --seed --depth -p --p --shared-reads --no-plan --quiet ;;
-    whatif) echo -h --help -p --p --shared-reads --without --program --names --short --no-plan ;;
+    whatif) echo -h --help --without --program --names -p --p --shared-reads --short --no-plan ;;
     curve) echo -h --help -p --p --shared-reads ;;
-    sweep) echo -h --help -p --p --cowns --spawns --shared-reads --best ;;
-    why) echo -h --help -w --workers --seed --depth -p --p --shared-reads --record --names --all --quiet ;;
-    cowns) echo -h --help -w --workers --seed --depth --shared-reads --record --names --top --quiet ;;
+    sweep) echo -h --help --cowns -p --p --shared-reads --best --spawns ;;
+    why) echo -h --help -w --workers --seed --depth --record --names -p --p --shared-reads --all --quiet ;;
+    cowns) echo -h --help -w --workers --seed --depth --record --names --top --shared-reads --quiet ;;
     outcomes) echo -h --help --runs --seed -w --workers --depth ;;
     esac
 }
@@ -49,7 +50,7 @@ _boc() {
     if [[ $are_options ]]; then
         case $option in
         --record | --program | --names) _boc_files "$current" && return ;;
-        -w | --workers | --seed | --depth | -p | --p | --runs | --top | --best | --without) return ;;
+        -w | --workers | --seed | --depth | --runs | -p | --p | --without | --best | --top) return ;;
         esac
     fi
     if [[ $current == -* && $are_options ]]; then

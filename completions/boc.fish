@@ -1,4 +1,5 @@
 # Completion of `boc` for fish: its commands, the options of each, and files. Numbers and names of cowns are not completed.
+# Written by bin/pages from bin/lib/pages.toml. Change that, and run it again.
 
 # The command on the line, if there is one: the first word that is no option.
 function __boc_command
@@ -29,29 +30,35 @@ complete -c boc -n '__boc_is; or __boc_is help' -a time -d 'Run a program on thr
 complete -c boc -n '__boc_is; or __boc_is help' -a whatif -d 'Profile a recorded run with ticks, spawns or cowns changed'
 complete -c boc -n '__boc_is; or __boc_is help' -a curve -d 'Print when plans for 1, 2, 3 .. workers end'
 complete -c boc -n '__boc_is; or __boc_is help' -a sweep -d 'Print the span with each row, cown or spawn changed in turn'
-complete -c boc -n '__boc_is; or __boc_is help' -a why -d 'Show what limits a run and what each change would gain'
+complete -c boc -n '__boc_is; or __boc_is help' -a why -d 'Show the critical path of a run and what some changes gain'
 complete -c boc -n '__boc_is; or __boc_is help' -a cowns -d 'Show how long cowns are held and whether they limit a run'
 complete -c boc -n '__boc_is; or __boc_is help' -a outcomes -d 'Draw many random runs and count the final states they reach'
 complete -c boc -n '__boc_is; or __boc_is help' -a help -d 'Print help'
 
-# The file that the input is read from; an edit of whatif is not completed.
+# The file that the input is read from; an edit is not completed.
 complete -c boc -n '__boc_is values check run profile time whatif curve sweep why cowns outcomes' -F
 
-complete -c boc -n '__boc_is run time why cowns outcomes' -s w -l workers -x -d 'Run the program with N workers, 1 to 16'
-complete -c boc -n '__boc_is run time why cowns outcomes' -l seed -x -d 'Draw a random run, reproducible by this seed'
-complete -c boc -n '__boc_is run time why cowns outcomes' -l depth -x -d 'Use random priorities of depth D, 1 to 16'
-complete -c boc -n '__boc_is outcomes' -l runs -x -d 'Draw K runs, 1 to 1,000,000'
-complete -c boc -n '__boc_is profile time whatif curve sweep why' -s p -l p -x -d 'Plan for P workers, 1 to 64'
-complete -c boc -n '__boc_is profile time whatif curve sweep why cowns' -l shared-reads -d 'In plans, let behaviours that only read a cown share it'
+complete -c boc -n '__boc_is run time why cowns' -s w -l workers -x -d 'Run the program on N threads, 1 to 16 [default: 1]'
+complete -c boc -n '__boc_is outcomes' -s w -l workers -x -d 'Draw runs of N workers, 1 to 16 [default: 4]'
+complete -c boc -n '__boc_is run time why cowns' -l seed -x -d 'Draw a random run from seed S; give -w of 2 or more'
+complete -c boc -n '__boc_is outcomes' -l seed -x -d 'Draw the first run with S, the next with S + 1 [default: 0]'
+complete -c boc -n '__boc_is run time why cowns' -l depth -x -d 'With --seed, use random priorities of depth D, 1 to 16'
+complete -c boc -n '__boc_is outcomes' -l depth -x -d 'Use random priorities of depth D, 1 to 16'
+complete -c boc -n '__boc_is outcomes' -l runs -x -d 'Draw K runs, 1 to 1,000,000 [default: 1000]'
+complete -c boc -n '__boc_is profile time whatif' -s p -l p -x -d 'Also print the greedy plan for P workers, 1 to 64'
+complete -c boc -n '__boc_is curve' -s p -l p -x -d 'Go up to P workers, 1 to 64 [default: 64]'
+complete -c boc -n '__boc_is sweep' -s p -l p -x -d 'Print ends of greedy plans for P workers, 1 to 64'
+complete -c boc -n '__boc_is why' -s p -l p -x -d 'Also print the greedy plan'"'"'s end for P workers, 1 to 64'
+complete -c boc -n '__boc_is profile time whatif curve sweep why cowns' -l shared-reads -d 'Plan as if rows that only read a cown shared it'
 complete -c boc -n '__boc_is profile time whatif' -l no-plan -d 'Do not print the plan or the rows of the greedy plan'
-complete -c boc -n '__boc_is values run profile time why cowns' -l quiet -d 'Do not note behaviours that ended by a fault'
-complete -c boc -n '__boc_is values why cowns' -l record -r -F -d 'Take the run recorded in a file instead of a new one'
-complete -c boc -n '__boc_is check whatif' -l program -r -F -d 'Read the program of the recorded run from a file'
-complete -c boc -n '__boc_is whatif why cowns' -l names -r -F -d 'Read the names of rows and cowns from a file'
-complete -c boc -n '__boc_is whatif' -l without -x -d 'Leave out a cown, or an array; may be given repeatedly'
 complete -c boc -n '__boc_is whatif' -l short -d 'Print only work, span and chain, before and after'
+complete -c boc -n '__boc_is whatif' -l without -x -d 'Leave out a cown, or an array; may be given repeatedly'
 complete -c boc -n '__boc_is sweep' -l cowns -d 'Leave out each cown in turn; do not lower rows'
 complete -c boc -n '__boc_is sweep' -l spawns -d 'Spawn each row as early as it can be; do not lower it'
 complete -c boc -n '__boc_is sweep' -l best -x -d 'Print the K best lines, 1 to 65,535, with their gain'
-complete -c boc -n '__boc_is why' -l all -d 'Print every row of the chain; do not fold rows'
 complete -c boc -n '__boc_is cowns' -l top -x -d 'Print only the first K cowns, 1 to 256'
+complete -c boc -n '__boc_is why' -l all -d 'Print every row of the chain; do not fold rows'
+complete -c boc -n '__boc_is values why cowns' -l record -r -F -d 'Take the run that FILE records; run nothing'
+complete -c boc -n '__boc_is check whatif' -l program -r -F -d 'Read the program of the recorded run from FILE'
+complete -c boc -n '__boc_is whatif why cowns' -l names -r -F -d 'Read the names of rows and cowns from FILE'
+complete -c boc -n '__boc_is values run profile time why cowns' -l quiet -d 'Print no notes, such as on rows ended by a fault'

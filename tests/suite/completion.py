@@ -1,8 +1,10 @@
-"""Completions and man pages: they name the commands and the options that help names, each where it belongs, and nothing else.
+"""Completions and man pages: they are what bin/pages makes of its table, the table says what help says, and shells and man take them.
 
-The files are read as they stand, and tried in bash, zsh, fish and man, which the packages of Debian bring where they can be had.
+The shells and man are brought by the packages of Debian where they can be had.
 """
 import contextlib
+import dataclasses
+import itertools
 import os
 import pty
 import re
@@ -12,13 +14,13 @@ import subprocess
 import tempfile
 import threading
 import time
-from typing import Callable, NamedTuple
+from typing import NamedTuple
 
-from .copies import view_of
+from .copies import TOP, view_of
 
-TOP = os.path.dirname(os.path.dirname(os.path.dirname(os.path.abspath(__file__))))
+import pages
+
 FOLDER = os.path.join(TOP, "completions")
-PAGES = os.path.join(TOP, "man")
 
 PROGRAMS = ("boc", "boc-view")
 
@@ -34,14 +36,19 @@ SECONDS = 30
 FILES = {"a.boc", "folder", "run.record"}
 
 OPTION = re.compile(r"(?<![\w-])--?[A-Za-z][a-z-]*")
-FUNCTION = re.compile(r"^(?:function ([\w-]+)|([\w-]+)\(\) \{)$", re.MULTILINE)
-HELP_OPTION = re.compile(r"^ {2,6}(?:(-\w)(?:, |  |$))?(--[\w-]+)?(?: <(\w+)>)?(?:  .*)?$")
+HELP_OPTION = re.compile(r"^ {2,6}(?:(-\w), )?(--[\w-]+)(?: <(\w+)>)?  +(\S.*)$")
 
 
 class Help(NamedTuple):
-    """What help says of a command: its options with what they take, if anything, and its operands."""
-    options: dict
+    """What help says of a command: its line, its options and its operands."""
+    line: str
+    said: list
     operands: set
+
+    @property
+    def options(self):
+        """What each option takes, if anything, by its name and by its letter."""
+        return {form: option.value for option in self.said for form in option.forms()}
 
 
 # What help says.
@@ -58,104 +65,65 @@ def section(text, head):
 
 
 def helps_of(program):
-    """The help of each command by its name, and that of the program by none."""
-    whole = program.run(["--help"]).output.decode()
+    """The short help of each command by its name, and that of the program by none."""
+    whole = program.run(["-h"]).output.decode()
     helps = {"": help_in(whole)}
     for line in section(whole, "Commands"):
         name = line.split()[0]
-        helps[name] = help_in(program.run(["help", name]).output.decode())
+        helps[name] = help_in(program.run([name, "-h"] if name != "help" else ["help", name]).output.decode())
     return helps
 
 
 def help_in(text):
-    options = {}
-    for line in section(text, "Options"):
-        found = HELP_OPTION.match(line)
-        for name in found.groups()[:2] if found else []:
-            if name:
-                options[name] = found.group(3)
+    said = [pages.Option(*(it or "" for it in found.groups())) for found in map(HELP_OPTION.match, section(text, "Options")) if found]
     usage = re.search(r"^Usage: (.*)$", text, re.MULTILINE).group(1)
     words = {word for found in re.findall(r"\[([^\]]*)\]", usage) for word in found.split("|")}
-    return Help(options, words - {"OPTIONS"})
+    return Help(text.partition("\n")[0], said, words - {"OPTIONS"})
 
 
-# What the files say: the options of each command by its name, and those of none.
+# What the table and the files say.
 
-def in_bash(text):
-    commands = re.search(r"commands='(.*)'", text).group(1).split()
-    arms = re.findall(r"^    (''|\w[\w |]*)\) echo (.*) ;;$", text, re.MULTILINE)
-    return {**{name: set() for name in commands}, **{name: set(options.split()) for arm, options in arms for name in arm.strip("'").split(" | ")}}
-
-
-def in_zsh(text):
-    commands = re.findall(r"^        '(\w+):", text, re.MULTILINE)
-    # A list of options that exclude this one, and what is said of it, name none.
-    lists = {name: set(OPTION.findall(re.sub(r"'\([^)]*\)|\[[^\]]*\]", " ", specs)))
-             for name, specs in re.findall(r"^    local -a (\w+)=\((.*)\)$", text, re.MULTILINE)}
-    arms = re.findall(r"^    (\w[\w |]*)\) _arguments(?: -S)? (.*) ;;$", text, re.MULTILINE)
-    arms.append(("", re.search(r"_arguments -S -C (.*) '", text).group(1)))
-    found = {name: set().union(*(lists[it] for it in re.findall(r"\$(\w+)", words))) for arm, words in arms for name in arm.split(" | ")}
-    return {**{name: set() for name in commands}, **found}
+def of_table(program, table, helps):
+    """The table names what help names, by the same lines where these are not the parser's own."""
+    names = [it.name for it in table.commands]
+    yield f"{table.called}: the commands of the table", None if names == [it for it in helps if it] else f"{names} in place of {list(helps)}"
+    for command in [table.top, *(it for it in table.commands if it.name in helps)]:
+        told, found = helps[command.name], {plain(it) for it in command.offered}
+        differing = [found ^ {plain(it) for it in told.said}, set(command.operands) ^ told.operands, {command.line} - {told.line, "Print help"}]
+        yield f"{table.called} {command.name}: the table", f"it differs from help in {differing}" if any(differing) else None
+        yield f"{table.called} {command.name}: options that exclude each other", fault_of_excluded(program, command)
 
 
-def in_fish(text):
-    """A condition is that one of these commands stands on the line, or that none does, or all but that."""
-    called = re.search(r"^complete -c (\S+) -f$", text, re.MULTILINE).group(1)
-    is_one = f"__{called.replace('-', '_')}_is"
-    commands = re.findall(rf"^complete -c {called} -n '{is_one}; or {is_one} help' -a (\w+) ", text, re.MULTILINE)
-    found = {name: set() for name in ["", *commands]}
-    for plain, quoted, words in re.findall(rf"^complete -c {called} -n (?:(\w+)|'([^']*)') (.*)$", text, re.MULTILINE):
-        condition = (plain or quoted).split()
-        names = set(found) - set(condition[2:]) if condition[0] == "not" else set(condition[1:]) or {""}
-        options = {"-" + it for it in re.findall(r"-s (\w)\b", words)} | {"--" + it for it in re.findall(r"-l ([\w-]+)", words)}
-        if options:
-            for name in names & set(found):
-                found[name] |= options
-    return found
+def plain(option):
+    return dataclasses.replace(option, line="") if option.name in pages.ALONE else option
 
 
-def in_page(text, called):
-    """The synopsis of a man page: what stands behind each command. All of them have the help that is named at its end."""
-    plain = re.sub(r"\\f.", "", text).replace("\\-", "-")
-    synopsis = plain.partition(".SH SYNOPSIS\n")[2].partition(".SH ")[0]
-    found = {}
-    for part in re.split(r"^\.HP.*\n", synopsis, flags=re.MULTILINE)[1:]:
-        words = re.sub(r"^\..*\n", "", part, flags=re.MULTILINE).split()
-        name = words[1] if words[0] == called and words[1].isalpha() else ""
-        found[name] = found.get(name, "") + " ".join(words) + "\n"
-    return found
-
-
-# What is wrong.
-
-def difference(helps, found):
-    """What is wrong with the options that a file has for each command, or None."""
-    if set(found) != set(helps):
-        return f"it has the commands {sorted(found)} in place of {sorted(helps)}"
-    for name, options in found.items():
-        wanted = set(helps[name].options)
-        if options != wanted:
-            return f"for {name or 'no command'} it lacks {sorted(wanted - options)} and has {sorted(options - wanted)} more"
+def fault_of_excluded(program, command):
+    """Two options that no usage has together are refused together, and no others."""
+    for one, other in itertools.combinations([it for it in command.options if it.name not in pages.ALONE], 2):
+        words = [command.name, *given(one), *given(other)]
+        is_refused = b"cannot be used with '" in program.run(words).errors
+        if is_refused != (other in command.excluded(one)):
+            return f"{words} are {'' if is_refused else 'not '}refused"
     return None
 
 
-def fault_of_page(helps, text, called):
-    synopsis = in_page(text, called)
-    common = {"-h", "--help"}
-    found = {name: set(OPTION.findall(words)) | (common if helps.get(name, helps[""]).options else set()) for name, words in synopsis.items()}
-    fault = difference(helps, found)
-    if fault:
-        return fault
-    for name, words in synopsis.items():
-        lacking = [operand for operand in helps[name].operands if f"[{operand}]" not in words]
-        if lacking:
-            return f"for {name} it lacks the operands {lacking}"
-        if name and "FILE" not in helps[name].operands and words.endswith("[FILE]\n"):
-            return f"for {name} it has a FILE"
-    plain = re.sub(r"\\f.", "", text).replace("\\-", "-")
-    told = [option for line in re.findall(r"^\.TP\n(.*)$", plain.partition(".SH OPTIONS\n")[2], re.MULTILINE) for option in OPTION.findall(line)]
-    every = set().union(*(it.options for it in helps.values()))
-    return None if sorted(told) == sorted(every) else f"it tells of the options {sorted(told)} in place of {sorted(every)}"
+def given(option):
+    """An option with a number that it takes, or with a file that isn't there."""
+    return [option.name, "40" if option.value == "COLUMNS" else "2"] if option.value else [option.name]
+
+
+def of_files(helps):
+    """Each file is what bin/pages makes, and names each option of help; a man page does so twice."""
+    for name, text in pages.made(TOP).items():
+        yield f"{name} and bin/pages", None if text_of(os.path.join(TOP, name)) == text else "it is not what bin/pages writes: run that"
+        called = max((it for it in PROGRAMS if it in name), key=len)
+        every = {option for it in helps[called].values() for option in it.options}
+        for part in re.findall(r"^\.SH (?:SYNOPSIS|OPTIONS)\n((?:(?!\.SH ).*\n)*)", text, re.MULTILINE) or [text]:
+            # In a man page hyphens have a backslash, and in fish an option is `-s o -l option`.
+            words = re.sub(r"-s (?=\w )", "-", re.sub(r"-l (?=[a-z])", "--", re.sub(r"\\f.", "", part).replace("\\-", "-")))
+            lacking = every - set(OPTION.findall(words))
+            yield f"{name}: the options of help", f"it lacks {sorted(lacking)}" if lacking else None
 
 
 # The shells.
@@ -197,9 +165,9 @@ def questions(called, helps):
             yield from (Wanted(f"{before}{option} 1 ", FILES) for option, value in entry.options.items() if value and value != "FILE")
 
 
-def ask_bash(path, lines, folder):
+def ask_bash(paths, lines, folder):
     """What bash has for each line. It splits a line at equals signs too."""
-    script = [f"source {path}", 'ask() { found=$(complete -p "$1"); found=${found#*-F }; found=${found%% *}',
+    script = [*(f"source {it}" for it in paths), 'ask() { found=$(complete -p "$1"); found=${found#*-F }; found=${found%% *}',
               'COMP_WORDS=("$@"); COMP_CWORD=$(($# - 1)); COMPREPLY=(); "$found"; printf "%s\\n" "${COMPREPLY[@]}" .; }']
     for line in lines:
         words = re.findall(r"=|[^\s=]+", line) + ([""] if line[-1] in " =" else [])
@@ -207,8 +175,8 @@ def ask_bash(path, lines, folder):
     return shell(["bash", "--norc", "-c", "\n".join(script)], folder)
 
 
-def ask_fish(path, lines, folder):
-    script = [f"source {path}"]
+def ask_fish(paths, lines, folder):
+    script = [f"source {it}" for it in paths]
     script += [f"complete -C '{line}' | string replace -r '\\t.*' ''; echo ." for line in lines]
     answers = shell(["fish", "--no-config", "-c", "\n".join(script)], folder)
     # What stands behind an equals sign is told with what stands before it.
@@ -257,11 +225,11 @@ print -r -- . >> $FOUND
 """
 
 
-def ask_zsh(path, lines, folder):
+def ask_zsh(paths, lines, folder):
     """What zsh has for each line. It completes on a terminal alone."""
     found = os.path.join(folder, "found")
     with open(os.path.join(folder, ".zshrc"), "w", encoding="utf-8") as file:
-        file.write(ZSH % os.path.dirname(path))
+        file.write(ZSH % os.path.dirname(paths[0]))
     with open(found, "wb"):
         pass
     environment = {"PATH": os.environ["PATH"], "HOME": folder, "ZDOTDIR": folder, "FOUND": found, "TERM": "vt100", "LC_ALL": "C.UTF-8"}
@@ -297,27 +265,12 @@ def points_in(path, count):
         time.sleep(0.002)
 
 
-class Shell(NamedTuple):
-    """What its file for a program is called, the line there that says for which one it is, what reads the file, and what asks the shell."""
-    file: str
-    line: str
-    read: Callable
-    ask: Callable
-
-
-SHELLS = {
-    "bash": Shell("{0}.bash", "complete -F _{1} {0}", in_bash, ask_bash),
-    "zsh": Shell("_{0}", "#compdef {0}", in_zsh, ask_zsh),
-    "fish": Shell("{0}.fish", "complete -c {0} -f", in_fish, ask_fish),
-}
+# What a shell calls its file for a program, and what asks it.
+SHELLS = {"bash": ("{}.bash", ask_bash), "zsh": ("_{}", ask_zsh), "fish": ("{}.fish", ask_fish)}
 
 
 def path_of(name, called):
-    return os.path.join(FOLDER, SHELLS[name].file.format(called))
-
-
-def line_of(name, called):
-    return SHELLS[name].line.format(called, called.replace("-", "_"))
+    return os.path.join(FOLDER, SHELLS[name][0].format(called))
 
 
 def install_packages():
@@ -331,16 +284,15 @@ def install_packages():
 
 
 def cases(program):
-    helps = dict(zip(PROGRAMS, [helps_of(program), helps_of(view_of(program))]))
-    for name in SHELLS:
-        yield from of_files(name, helps)
-    for called in PROGRAMS:
-        yield f"{called}.1", fault_of_page(helps[called], text_of(os.path.join(PAGES, f"{called}.1")), called)
+    programs = dict(zip(PROGRAMS, [program, view_of(program)]))
+    helps = {called: helps_of(it) for called, it in programs.items()}
+    for called in pages.read_programs(TOP):
+        yield from of_table(programs[called.called], called, helps[called.called])
+    yield from of_files(helps)
     install_packages()
     for name in SHELLS:
         if shutil.which(name):
-            for called in PROGRAMS:
-                yield from of_shell(name, called, [it for it in questions(called, helps[called]) if name != "fish" or it.is_for_fish])
+            yield from of_shell(name, [it for called in PROGRAMS for it in questions(called, helps[called]) if name != "fish" or it.is_for_fish])
         else:
             print(f"note: the completion of {name} was not tried, since there is no {name} and its package can't be had", flush=True)
     yield from of_bash_completion()
@@ -350,27 +302,16 @@ def cases(program):
         print("note: no man page was formatted, since there is no man and its package can't be had", flush=True)
 
 
-def of_files(name, helps):
-    """What the files of a shell say, as they stand. It keeps the functions of all of them, so no two may be called the same."""
-    functions = []
-    for called in PROGRAMS:
-        path, line = path_of(name, called), line_of(name, called)
-        text, file = text_of(path), os.path.basename(path)
-        yield f"{file}: its program", None if line in text.splitlines() else f"it has no line {line!r}"
-        yield f"{file}: its options", difference(helps[called], SHELLS[name].read(text))
-        functions += [one or other for one, other in FUNCTION.findall(text)]
-    yield f"{name}: its functions", None if functions and len(functions) == len(set(functions)) else f"two are called the same: {sorted(functions)}"
-
-
-def of_shell(name, called, wanted):
+def of_shell(name, wanted):
+    """What a shell answers that has read the files of both programs: it keeps the functions of all of them, so no two may be called the same."""
     with tempfile.TemporaryDirectory() as folder:
         make_files(folder)
         try:
-            answers = SHELLS[name].ask(path_of(name, called), [it.line for it in wanted], folder)
+            answers = SHELLS[name][1]([path_of(name, called) for called in PROGRAMS], [it.line for it in wanted], folder)
         except (Failed, subprocess.TimeoutExpired) as failed:
-            yield f"{name}, {called}", str(failed)
+            yield name, str(failed)
             return
-    yield f"{name}, {called}: answers", None if len(answers) == len(wanted) else f"{len(answers)} in place of {len(wanted)}"
+    yield f"{name}: answers", None if len(answers) == len(wanted) else f"{len(answers)} in place of {len(wanted)}"
     for (line, words, _), found in zip(wanted, answers):
         yield f"{name}: {line!r}", None if found == words else f"it lacks {sorted(words - found)} and has {sorted(found - words)} more"
 
@@ -396,7 +337,8 @@ def of_bash_completion():
         for called in PROGRAMS:
             script = f"source {BASH_COMPLETION}; _completion_loader {called}; complete -p {called}"
             run = subprocess.run(["bash", "--norc", "-c", script], env=environment, capture_output=True, timeout=SECONDS, check=False)
-            yield f"bash finds that of {called}", None if run.stdout.decode() == line_of("bash", called) + "\n" else f"it says {run}"
+            wanted = f"complete -F _{called.replace('-', '_')} {called}\n"
+            yield f"bash finds that of {called}", None if run.stdout.decode() == wanted else f"it says {run}"
 
 
 def of_pages():
@@ -404,6 +346,7 @@ def of_pages():
     for name in (f"{called}.1" for called in PROGRAMS):
         for width in ("60", "80", "160"):
             environment = {**os.environ, "MANWIDTH": width, "LC_ALL": "C.UTF-8", "MANPAGER": "cat"}
-            run = subprocess.run(["man", "--warnings", "-l", os.path.join(PAGES, name)], env=environment, capture_output=True, timeout=SECONDS, check=False)
+            words = ["man", "--warnings", "-l", os.path.join(TOP, "man", name)]
+            run = subprocess.run(words, env=environment, capture_output=True, timeout=SECONDS, check=False)
             is_well = run.returncode == 0 and not run.stderr and b"EXIT STATUS" in run.stdout
             yield f"{name}: {width} columns", None if is_well else f"the status {run.returncode}, {run.stderr!r} and {run.stdout[:80]!r}"

@@ -208,6 +208,30 @@ def unproved(_program):
         yield "and no program is left", None if not os.listdir(last) else f"{os.listdir(last)}"
 
 
+# bin/pages.
+
+def pages(_program):
+    with copied_of_few() as copy:
+        def answer(*words):
+            return copy.run(*words, command="bin/pages", kit=True)
+
+        yield "pages --check of the tree", fault_of(done(b""), answer("--check"))
+        change(copy, "man/boc.1")
+        os.remove(copy.path("completions/_boc-view"))
+        differing = [f"{it} is not what bin/pages writes\n".encode() for it in ("man/boc.1", "completions/_boc-view")]
+        yield "pages --check of a changed file and one that is gone", fault_of(Answer(1, b"".join(differing), b""), answer("--check"))
+        yield "pages", fault_of(done(b""), answer())
+        yield "pages has written both", fault_of(done(b""), answer("--check"))
+        yield "pages --write", refusal(answer("--write"), 1, "pages [--check]")
+        for line, words in [("--nothing = ''", "no usage of boc-view has --nothing"), ("[boc.commands.run]\nusage = []", "pages.toml"),
+                            ("[boc-view.commands.more]\nline = ''\nusage = ['[--more]']", "more names --more")]:
+            with open(copy.path("bin/lib/pages.toml"), "a") as file:
+                size = file.tell()
+                file.write(f"{line}\n")
+            yield f"pages with {line!r} in its table", refusal(answer("--check"), 1, words)
+            os.truncate(copy.path("bin/lib/pages.toml"), size)
+
+
 # bin/install.
 
 def installs(_program):
@@ -454,4 +478,4 @@ def answer_of(*command):
 
 
 # The longest come first.
-PARTS = [installs, unproved, ships, reproductions, builds, groups, calls, wrong_bodies, edits, benches, totals, shipments_that_do_not_run]
+PARTS = [installs, unproved, ships, reproductions, builds, groups, calls, wrong_bodies, edits, benches, totals, shipments_that_do_not_run, pages]

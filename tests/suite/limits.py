@@ -170,6 +170,10 @@ def records_of_most_rows(program):
     yield "most rows with 8 cowns each: curve", fault_of(done(model.curve(rows, 3)), answer)
     rows = tower(MOST_ROWS)
     yield from answers(program, "a tower of most rows", tower_text(rows), rows, (1, 64), None)
+    rows = [row._replace(offset=number + 1) if number else row for number, row in enumerate(fan(MOST_ROWS, ticks_of=lambda _: 1000000, main_ticks=MOST_ROWS))]
+    yield from answers(program, "most rows of the most ticks", fan_text(0, rows), rows, (64,), None)
+    ends = program.run(["profile", "--p", "64", "--no-plan"], fan_text(0, rows)).output.splitlines()[-1:]
+    yield "most rows of the most ticks: bound", None if ends and ends[0].endswith(b" bound 1025035308") else f"it ends with {ends}"
 
 
 def early_spawns(program, name, source, rows):

@@ -23,6 +23,11 @@ def spawned(line):
     return lines_text(TRANSFER[:3] + [line])
 
 
+# Texts that are numbers, which are at most 4,294,967,295, and texts that are none.
+NUMBERS = ["0", "7", "10", "305419896", "4294967295"]
+NO_NUMBERS = ["", "00", "01", "4294967296", "4294967305", "9999999999", "42949672950", "18446744073709551617", "a", "1a", "a1", "+1", "-1", " 1", "1 ", "1\n",
+              "/", ":"]
+
 # Texts that are no record's, the line of the fault and its kind.
 RECORDS = [
     (lines_text(["boc 3 2"] + TRANSFER[1:]), 1, 1),
@@ -73,6 +78,26 @@ RECORDS = [
     (with_line(7, "< 0 3 0"), 7, 8),
     (with_line(7, "< 0 1000001 0"), 7, 8),
     (with_line(7, "< 1 4 0"), 7, 8),
+    (with_line(6, "+ 3 1 9"), 6, 4),
+    (with_line(14, "+ 4 0 9"), 14, 4),
+    # The first rule that is broken is told.
+    (with_line(4, "+ 5 9 0 7"), 4, 3),
+    (with_line(4, "+ 1 9 0 7"), 4, 4),
+    (with_line(4, "+ 1 0 0 7"), 4, 5),
+    (with_line(2, "+ 0 1 1 0"), 2, 4),
+    (with_line(2, "+ 0 0 1 0"), 2, 5),
+    (with_line(2, "> 0"), 2, 7),
+    (with_line(7, "> 2"), 7, 7),
+    (with_line(7, "> 3"), 7, 7),
+    (with_line(7, "> 0"), 7, 7),
+    (with_line(7, "> 4"), 7, 7),
+    (with_line(9, "> 2"), 9, 7),
+    (with_line(11, "> 3"), 11, 7),
+    (with_line(14, "> 1"), 14, 7),
+    (with_line(2, "< 0 1 0"), 2, 8),
+    (with_line(4, "< 0 0 0"), 4, 8),
+    (with_line(7, "< 1 1 0"), 7, 8),
+    (with_line(14, "< 1 2 0"), 14, 8),
     (lines_text(["boc 1 2", "."]), 2, 10),
     (lines_text(ONE_RUNS + ["."]), 7, 10),
     (with_line(13, "."), 13, 10),
@@ -184,6 +209,10 @@ def cases(program):
         expected = refused(3, f"boc: line {line}: {kind} {RECORD_KINDS[kind]}")
         for words in READ_RECORDS:
             yield f"{words} of {source[-40:]!r}", fault_of(expected, program.run(words, source))
+    for kind, texts in [(3, NUMBERS), (2, NO_NUMBERS)]:
+        for text in texts:
+            answer = program.run(["check"], spawned(f"+ {text} 0 1"))
+            yield f"{text!r} as the number of a row", fault_of(refused(3, f"boc: line 4: {kind} {RECORD_KINDS[kind]}"), answer)
     for source, line, kind in PROGRAMS:
         expected = refused(3, f"boc: line {line}: {kind} {READER_KINDS[kind]}")
         for words in READ_PROGRAMS:

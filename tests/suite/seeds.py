@@ -104,6 +104,12 @@ def race(program):
             ends.add(program.run_beside(["values"], "--record", record, RACE).output)
         is_so = len(ends) == count and ends <= ENDS
         yield f"a race by {workers} workers", None if is_so else f"its ends are {ends}"
+    serial = done(program.run(["run"], RACE).output)
+    for words in (["--seed", "0"], ["--seed", SEEDS[-1], "--depth", "16"], ["--seed", "7", "--depth", "1"]):
+        yield f"a race by one worker, {words}", fault_of(serial, program.run(["run", "--workers", "1", *words], RACE))
+    for workers in WORKERS:
+        words = ["run", "--workers", workers, "--seed", "7"]
+        yield f"a race once more, {words}", fault_of(done(program.run(words, RACE).output), program.run(words, RACE))
 
 
 def refusals(program):

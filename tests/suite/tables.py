@@ -9,10 +9,15 @@ import os
 import re
 import subprocess
 
+from .records import fan, fan_text
+
 TOP = os.path.dirname(os.path.dirname(os.path.dirname(os.path.abspath(__file__))))
 TABLES = os.path.join(TOP, "crates", "tables", "out", "tables")
 FOLDER = os.path.join(TOP, "tests", "tables")
 SECONDS = 120
+
+# The most rows that a record may have, and one more.
+LARGE = [(65535, b"ok 65535\n"), (65536, b"line 65538: 9 TooMany\n")]
 
 
 def bytes_of(shown):
@@ -67,3 +72,7 @@ def cases(_program):
     for name in sorted(os.listdir(FOLDER)):
         table = read_table(os.path.join(FOLDER, name))
         yield f"{name}, {len(table)} cases", wrong_in(table) if table else "it has no case"
+    for rows, answer in LARGE:
+        text = fan_text(0, fan(rows)).replace(b"boc 1", b"boc 2", 1)
+        told = answers(b"record %d\n%s\n" % (len(text), text))
+        yield f"a record of {rows} rows", None if told == answer else f"{told[:200]!r} in place of {answer!r}"

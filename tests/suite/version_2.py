@@ -3,12 +3,18 @@ from . import model
 from .records import TRANSFER, WRITTEN, lines_text
 from .refusals import RECORD_KINDS
 from .running import done, fault_of, refused
-from .worked import GREEDY, PROFILE, SHORTER
+from .worked import GREEDY, PROFILE, SHORTER, sweep_lines
 
 
 def with_written(number, line):
     """The record with another line in this place, counted from 1."""
     return lines_text(WRITTEN[:number - 1] + [line] + WRITTEN[number:])
+
+
+def of_256(record):
+    """The record, over as many cowns as there may be."""
+    header, rows = record.split(b"\n", 1)
+    return header[:len(b"boc 2 ")] + b"256\n" + rows
 
 
 # Two rows that only read their cown, and one that writes it: the text and the rows.
@@ -78,7 +84,12 @@ READ = [
     (READERS, ["curve", "--p", "3", "--shared-reads"], "work 20\nspan 12\n1 20 20 32\n2 13 12 22\n3 12 12 18\n"),
     (READERS, ["sweep", "--p", "2"], "0 18\n1 12\n2 12\n3 17\n"),
     (READERS, ["sweep", "--p", "2", "--shared-reads"], "0 13\n1 12\n2 11\n3 12\n"),
+    (READERS, ["sweep", "--p", "3", "--shared-reads"], "0 12\n1 12\n2 11\n3 11\n"),
     (READERS, ["sweep", "--cowns"], "0 10\n"),
+    (of_256(READERS), ["sweep", "--cowns"], sweep_lines(range(256), 18, {0: 10})),
+    (of_256(READERS), ["sweep", "--cowns", "--shared-reads"], sweep_lines(range(256), 12, {0: 10})),
+    (of_256(lines_text(WRITTEN)), ["sweep", "--cowns"], sweep_lines(range(256), 9, {0: 8, 1: 7})),
+    (of_256(lines_text(WRITTEN)), ["sweep", "--cowns", "--shared-reads"], sweep_lines(range(256), 9, {0: 8, 1: 7})),
     (READERS, ["sweep", "--cowns", "--shared-reads"], "0 10\n"),
     (READERS, ["sweep", "--cowns", "--p", "2", "--shared-reads"], "0 11\n"),
     (READERS, ["sweep", "--spawns"], "1 17\n2 18\n3 18\n"),
@@ -115,6 +126,8 @@ REFUSED = [
     (with_written(11, "< 2 3 0 0 1 2 3 4 5 6 7 8"), 11, 2),
     (with_written(9, "< 1 2 0 1"), 9, 8),
     (with_written(9, "< 1 2 0 2"), 9, 8),
+    (with_written(9, "< 1 2 0 0 0"), 9, 8),
+    (with_written(11, "< 2 3 0 0 2"), 11, 8),
     (with_written(9, "< 1 2 0 4294967295"), 9, 8),
     (with_written(11, "< 2 3 0 1 0"), 11, 8),
     (with_written(11, "< 2 3 0 0 0"), 11, 8),

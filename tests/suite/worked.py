@@ -155,6 +155,8 @@ PROGRAMS = [
     (b"main { work 1; }", ""),
     (b"main { work " + b"(" * 998 + b"1" + b")" * 998 + b"; }", ""),
     (b"cown low = -9223372036854775807; main { }", "low -9223372036854775807\n"),
+    (b"cown low = -9223372036854775807; cown none = 0; def down(; x) { x = x - 1; } main { when down(; low); }",
+     "low -9223372036854775808\nnone 0\n"),
     (b"cown a = 9223372036854775807; def up(; x) { x = x + 1; x = 0; } main { when up(; a); }", "a 9223372036854775807\n"),
     (b"cown c[4] = 0; def w(n; x) { work n; x = x + n; }\n"
      b"main { when w(6; c[0]); when w(6; c[1]); when w(6; c[2]); when w(6; c[3]); }", "c[0] 6\nc[1] 6\nc[2] 6\nc[3] 6\n"),
@@ -186,6 +188,14 @@ GREEDY = """greedy 2
 2 4 7 0
 3 7 9 0
 end 9 bound 14
+"""
+
+ONE_WORKER = """greedy 1
+0 0 4 0
+1 4 6 0
+2 6 9 0
+3 9 11 0
+end 11 bound 20
 """
 
 # With one tick in row 2.
@@ -248,6 +258,7 @@ CURVE = "work 11\nspan 9\n1 11 11 20\n2 9 9 14\n3 9 9 12\n"
 COMMANDS = [
     (["check"], "ok 4\n"),
     (["profile"], PROFILE),
+    (["profile", "--p", "1"], PROFILE + ONE_WORKER),
     (["profile", "--p", "2"], PROFILE + GREEDY),
     (["whatif"], PROFILE),
     (["whatif", "--p", "2"], PROFILE + GREEDY),
@@ -273,6 +284,35 @@ COMMANDS = [
     (["sweep", "--cowns", "--shared-reads"], "0 8\n1 7\n"),
     (["sweep", "--spawns"], "1 8\n2 9\n3 9\n"),
     (["sweep", "--shared-reads", "--spawns"], "1 8\n2 9\n3 9\n"),
+]
+
+# Programs, and the records of their runs by one thread.
+RUNS = [
+    (b"cown a = 10; cown b = 0; def move(k; x, y) { x = x - k; y = y + k; } main { when move(1; a, a); }",
+     "boc 2 2\n+ 0 0 0\n> 0\n< 0 2 4\n.\n"),
+    (b"def f(;) { work 3; } main { when f(;); when f(;); }",
+     "boc 2 0\n+ 0 0 0\n> 0\n+ 1 0 2\n+ 2 0 3\n< 0 3 0\n> 1\n< 1 4 0\n> 2\n< 2 4 0\n.\n"),
+    (b"main { let x = 9223372036854775807; x = x + 1; }", "boc 2 0\n+ 0 0 0\n> 0\n< 0 3 1\n.\n"),
+    (b"main { work 999999; }", "boc 2 0\n+ 0 0 0\n> 0\n< 0 1000000 0\n.\n"),
+    (b"main { work 1000000; }", "boc 2 0\n+ 0 0 0\n> 0\n< 0 1 6\n.\n"),
+    (b"cown a = 1; def peek(; x) { let y = x; work 5; } def set(; x) { x = x; } main { when peek(; a); when peek(; a); when set(; a); }",
+     "boc 2 1\n+ 0 0 0\n> 0\n+ 1 0 2 0\n+ 2 0 3 0\n+ 3 0 4 0\n< 0 4 0\n> 1\n< 1 7 0\n> 2\n< 2 7 0\n> 3\n< 3 2 0 0\n.\n"),
+]
+
+# Programs, for how many workers the greedy plan is, if it is asked for, and the report on their runs, whichever threads run them.
+FOUR_SQUARES = b"""cown c[4] = 0; def w(n; x) { work n; x = x + n; }
+main { when w(6; c[0]); when w(6; c[1]); when w(6; c[2]); when w(6; c[3]); }"""
+FOUR_SQUARES_PROFILE = "rows 5\nwork 37\nspan 13\nchain\n0 spawn 5\n4 end 8\nplan\n0 0 5\n1 2 10\n2 3 11\n3 4 12\n4 5 13\n"
+TIMED = [
+    (b"main { }", [], "rows 1\nwork 1\nspan 1\nchain\n0 end 1\nplan\n0 0 1\n"),
+    (FOUR_SQUARES, [], FOUR_SQUARES_PROFILE),
+    (FOUR_SQUARES, ["--p", "2"], FOUR_SQUARES_PROFILE + "greedy 2\n0 0 5 0\n1 2 10 1\n2 5 13 0\n3 10 18 1\n4 13 21 0\nend 21 bound 31\n"),
+    (FOUR_SQUARES, ["--p", "4"], FOUR_SQUARES_PROFILE + "greedy 4\n0 0 5 0\n1 2 10 1\n2 3 11 2\n3 4 12 3\n4 5 13 0\nend 13 bound 22\n"),
+    (b"cown c[2] = 0; def w(n; x) { work n; x = x + n; } main { when w(6; c[0]); when w(6; c[1]); }", [],
+     "rows 3\nwork 19\nspan 11\nchain\n0 spawn 3\n2 end 8\nplan\n0 0 3\n1 2 10\n2 3 11\n"),
+    (b"cown a = 0; def down(n; x) { x = x + n; if n > 0 { when down(n - 1; x); } } main { when down(2; a); }", [],
+     "rows 4\nwork 13\nspan 13\nchain\n0 spawn 2\n1 spawn 4\n2 spawn 4\n3 end 3\nplan\n0 0 2\n1 2 6\n2 6 10\n3 10 13\n"),
+    (b"def f(;) { work 3; } main { when f(;); when f(;); }", ["--p", "1"], NO_COWNS_PROFILE + NO_COWNS_GREEDY),
 ]
 
 # Numbers of threads; none is one.
@@ -307,9 +347,16 @@ def cases(program):
     text = program.example("transfer.boc")
     yield "run", fault_of(done(record), program.run(["run"], text))
     for threads in THREADS:
-        answer = program.run(["time", "--p", "2", *threads], text)
-        yield f"time {threads}", fault_of(done((PROFILE + GREEDY).encode()), answer)
+        for workers, greedy in [("1", ONE_WORKER), ("2", GREEDY)]:
+            answer = program.run(["time", "--p", workers, *threads], text)
+            yield f"time --p {workers} {threads}", fault_of(done((PROFILE + greedy).encode()), answer)
         yield f"run {threads}", fault_of_record(program, program.run(["run", *threads], text))
+    for source, lines in RUNS:
+        yield f"run of {source[-40:]!r}", fault_of(done(lines.encode()), program.run(["run", "--workers", "1"], source))
+    for source, words, text in TIMED:
+        for threads in THREADS:
+            answer = program.run(["time", *words, *threads], source)
+            yield f"time {' '.join(words + threads)} of {source[-40:]!r}", fault_of(done(text.encode()), answer)
     for words, text in COMMANDS:
         answer = program.run(words, record)
         yield " ".join(words), fault_of(done(text.encode()), answer)

@@ -11,6 +11,7 @@ use boc_record::put_events;
 use boc_registers::compiled::CompiledProgram;
 use boc_rules::{RuleFault, Rules};
 use boc_runs::event::Event;
+use boc_runs::record::Record;
 use boc_runs::rows::Rows;
 use boc_whatif::WhatIf;
 use std::alloc::Global;
@@ -118,25 +119,34 @@ fn lines(alloc: Global, core: &Dispatcher<'_>) -> Option<Vec<u8>> {
     None
 }
 
-// What is told of the run: its log, its steps and the span of its rows.
-fn told(alloc: Global) -> Option<(Vec<u8>, u64, u64)> {
-    let program = program(alloc)?;
-    let compiled = compiled(alloc, &program)?;
-    let core = driven(alloc, &compiled)?;
-    let (text, steps) = (lines(alloc, &core)?, core.steps());
+// The record of a finished run, taken up event by event.
+fn record(alloc: Global, core: &Dispatcher<'_>) -> Option<Record> {
     let mut rules = rules(alloc, 8)?;
     let log = core.log();
     for place in 0..log.len() {
         apply(&mut rules, &log.get(place))?;
     }
-    let record = rules.into_record().ok()?;
-    let span = span(alloc, record.rows())?;
-    Some((text, steps, span))
+    rules.into_record().ok()
+}
+
+// The log of a finished run, its steps and the span of its rows.
+fn told_of(alloc: Global, core: &Dispatcher<'_>) -> Option<(Vec<u8>, u64, u64)> {
+    let text = lines(alloc, core)?;
+    let span = span(alloc, record(alloc, core)?.rows())?;
+    Some((text, core.steps(), span))
+}
+
+// The same of the program's run.
+fn told(alloc: Global) -> Option<(Vec<u8>, u64, u64)> {
+    let program = program(alloc)?;
+    let compiled = compiled(alloc, &program)?;
+    let core = driven(alloc, &compiled)?;
+    told_of(alloc, &core)
 }
 
 fn main(rt: HostRuntime) -> io::Result<()> {
     let Some((text, steps, span)) = told(rt.alloc()) else {
-        return println!(rt; "memory was refused twice");
+        return rt.println("memory was refused twice");
     };
     let text = std::str::from_utf8(&text).unwrap_or("no text");
     println!(rt; "{text}steps {steps}\nspan {span}")

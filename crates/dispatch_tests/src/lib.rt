@@ -2,9 +2,7 @@
 #![tactic(auto)]
 
 #[cfg(test)]
-mod dispatch;
-#[cfg(test)]
-mod draws;
+mod calls;
 #[cfg(test)]
 mod drives;
 #[cfg(test)]

@@ -9,7 +9,7 @@ use std::alloc::Global;
 use std::process::Abort;
 
 // These cowns as a row keeps them; none where there are more than eight, or one of them has no byte.
-pub(crate) fn held(numbers: &[u32]) -> HeldCowns {
+fn held(numbers: &[u32]) -> HeldCowns {
     let cowns = Cowns::try_from(numbers).unwrap_or_default();
     HeldCowns::try_of(&cowns).unwrap_or_else(HeldCowns::new)
 }

@@ -1,8 +1,8 @@
 //! A slot is used again, on both kinds of chains.
 
-ghost use Rattle.std.specs.Prelude.{◌≡◌, ℕ, None, replicate, [], ◌∷◌};
+ghost use Rattle.std.specs.Prelude.{◌≡◌, replicate, [], ◌∷◌};
 
-use boc_chain::{Chains, LinkChains, ListChains, Settled, Slot};
+use boc_chain::{Chains, LinkChains, ListChains, Settled};
 use boc_program::short::Cowns;
 use std::alloc::AllocError;
 use std::test::Fail;
@@ -18,18 +18,15 @@ fn one() -> Cowns
 
 // Whether a slot that was given back is used again, and its one request is granted at once.
 fn uses_again<C: Chains>(chains: &mut C) -> Result<bool, AllocError>
-    requires lists { C.lists chains.old ≡ replicate 1 [] }
-    requires places { (slot : ℕ) → C.place chains.old slot ≡ None }
+    requires { C.lists chains.old ≡ replicate 1 [] }
 {
-    let first = Slot { index: 0 };
-    let second = Slot { index: 7 };
-    chains.admit(first, one())?;
-    chains.admit(second, one())?;
+    let first = chains.admit(one())?;
+    let second = chains.admit(one())?;
     chains.dismiss(first);
-    chains.admit(first, one())?;
-    let before = chains.swap(first, 0);
-    let settled = chains.settle(first, 0);
-    Ok(before.is_none() && settled == Settled::Lone)
+    let third = chains.admit(one())?;
+    let before = chains.swap(third, 0);
+    let settled = chains.settle(third, 0);
+    Ok(first == third && first != second && before.is_none() && settled == Settled::Lone)
 }
 
 #[test]

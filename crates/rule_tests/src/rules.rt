@@ -1,11 +1,9 @@
-//! The events of the transfer program, events that break a rule, and the end of a run.
+//! The calls of the rules, and of a judge. Which events break which rule is in `tests/suite/refusals.py` and in the tables that `tables` works through.
 
 use boc_program::body::EndStatus;
 use boc_program::short::Cowns;
 use boc_rules::{Judge, RuleFault, Rules};
 use boc_runs::event::{BrokenRule, Event};
-use boc_runs::record::Record;
-use boc_runs::rows::Row;
 use std::alloc::Global;
 use std::process::Abort;
 
@@ -37,22 +35,29 @@ fn end(row: u32, ticks: u32, written: &[u32]) -> Event {
     }
 }
 
-// Two deposits and a transfer between two accounts, cowns 0 and 1.
-fn transfer() -> [Event; 12] {
-    [
-        spawn(0, 0, 0, &[]),
-        start(0),
-        spawn(1, 0, 2, &[0]),
-        spawn(2, 0, 3, &[0, 1]),
-        spawn(3, 0, 4, &[1]),
-        end(0, 4, &[]),
-        start(1),
-        end(1, 2, &[0]),
-        start(2),
-        end(2, 3, &[0, 1]),
-        start(3),
-        end(3, 2, &[]),
-    ]
+// The events of two deposits and a transfer between two accounts, cowns 0 and 1, as their lines in a record.
+const TRANSFER: [(u8, (u32, u32, u32), &[u32]); 12] = [
+    (b'+', (0, 0, 0), &[]),
+    (b'>', (0, 0, 0), &[]),
+    (b'+', (1, 0, 2), &[0]),
+    (b'+', (2, 0, 3), &[0, 1]),
+    (b'+', (3, 0, 4), &[1]),
+    (b'<', (0, 4, 0), &[]),
+    (b'>', (1, 0, 0), &[]),
+    (b'<', (1, 2, 0), &[0]),
+    (b'>', (2, 0, 0), &[]),
+    (b'<', (2, 3, 0), &[0, 1]),
+    (b'>', (3, 0, 0), &[]),
+    (b'<', (3, 2, 0), &[]),
+];
+
+// The event of a line.
+fn event(sign: u8, (row, second, third): (u32, u32, u32), numbers: &[u32]) -> Event {
+    match sign {
+        b'+' => spawn(row, second, third, numbers),
+        b'>' => start(row),
+        _ => end(row, second, numbers),
+    }
 }
 
 // The rules of a run with two cowns and no event.
@@ -60,160 +65,30 @@ fn two_cowns(rt: &impl Abort, alloc: Global) -> Rules {
     Rules::new(alloc, 2).expect(rt, "memory")
 }
 
-// Each of these events keeps every rule.
-fn take_all(rt: &impl Abort, rules: &mut Rules, events: &[Event]) {
-    for event in events {
-        rules.apply(event).expect(rt, "an event that is allowed");
+// Takes the events of the transfer, and sees how much room each leaves.
+fn take_transfer(rt: &impl Abort, rules: &mut Rules, left: [usize; 12]) {
+    for ((sign, numbers, cowns), rooms) in TRANSFER.iter().zip(left) {
+        let taken = rules.apply(&event(*sign, *numbers, *cowns));
+        taken.expect(rt, "an event that is allowed");
+        assert_eq!(rt; rules.rooms(), rooms);
     }
 }
 
-// The rule that was broken, if one was.
-fn broken(answer: Result<(), RuleFault>) -> Option<BrokenRule> {
-    match answer {
-        Err(RuleFault::Broken(rule)) => Some(rule),
-        _ => None,
-    }
-}
-
-// After so many events of the transfer, this one is refused for this rule, and the events stay.
-fn refuses(rt: &impl Abort, alloc: Global, count: usize, event: &Event, rule: BrokenRule) {
-    let events = transfer();
-    assert!(rt; count <= events.len());
-    let (before, after) = events.split_at(count);
-    let mut rules = two_cowns(rt, alloc);
-    take_all(rt, &mut rules, before);
-    assert_eq!(rt; broken(rules.apply(event)), Some(rule), "{event:?}");
-    assert_eq!(rt; rules.events().len(), count);
-    take_all(rt, &mut rules, after);
+// The rules of the whole transfer give its record.
+fn has_record(rt: &impl Abort, rules: Rules) {
+    assert_eq!(rt; (rules.cowns(), rules.events().len()), (2, 12));
     assert!(rt; rules.is_complete());
-}
-
-// After so many events of the transfer each of these is refused for its rule.
-fn are_refused(rt: &impl Abort, alloc: Global, cases: &[(usize, Event, BrokenRule)]) {
-    for (count, event, rule) in cases {
-        refuses(rt, alloc, *count, event, *rule);
-    }
-}
-
-// The same rules, of a run that is not at its end.
-fn unfinished(rt: &impl Abort, rules: Rules) -> Rules {
-    assert!(rt; !rules.is_complete());
-    let Err(same) = rules.into_record() else {
-        panic!(rt; "a record before the end");
-    };
-    same
-}
-
-// The record of the transfer, which there is only after its last event.
-fn recorded(rt: &impl Abort, alloc: Global) -> Record {
-    let mut rules = two_cowns(rt, alloc);
-    for event in &transfer() {
-        rules = unfinished(rt, rules);
-        rules.apply(event).expect(rt, "an event that is allowed");
-    }
-    assert!(rt; rules.is_complete());
-    assert_eq!(rt; rules.events().len(), 12);
-    rules.into_record().ok().expect(rt, "a record at the end")
-}
-
-// A row with this parent, offset and ticks is done, and wrote these cowns.
-fn is_row(rt: &impl Abort, row: &Row, figures: [u32; 3], written: &[u8]) {
-    assert_eq!(rt; [row.parent, row.offset, row.ticks], figures);
-    assert_eq!(rt; row.status, EndStatus::Done);
-    assert_eq!(rt; row.written.as_slice(), written);
-}
-
-// Each of these rows is as the transfer's.
-fn are_rows_of_transfer(rt: &impl Abort, rows: &[Row]) {
-    assert_eq!(rt; rows.len(), 4);
-    is_row(rt, &rows[0], [0, 0, 4], &[]);
-    is_row(rt, &rows[1], [0, 2, 2], &[0]);
-    is_row(rt, &rows[2], [0, 3, 3], &[0, 1]);
-    is_row(rt, &rows[3], [0, 4, 2], &[]);
+    let record = rules.into_record().ok().expect(rt, "a record at the end");
+    assert_eq!(rt; (record.cowns(), record.rows().as_slice().len()), (2, 4));
 }
 
 #[test]
 fn transfer_is_taken(rt: HostRuntime) {
-    let alloc = rt.alloc();
-    let rules = two_cowns(&rt, alloc);
-    assert_eq!(rt; rules.cowns(), 2);
-    assert!(rt; rules.events().is_empty());
-    let record = recorded(&rt, alloc);
-    assert_eq!(rt; record.cowns(), 2);
-    assert_eq!(rt; record.events().len(), 12);
-    are_rows_of_transfer(&rt, record.rows().as_slice());
-}
-
-#[test]
-fn spawns_are_judged(rt: HostRuntime) {
-    let cases = [
-        (0, spawn(1, 0, 0, &[]), BrokenRule::NumberNotNext),
-        (0, spawn(0, 1, 0, &[]), BrokenRule::ParentNotRunning),
-        (0, spawn(0, 0, 1, &[]), BrokenRule::Offset),
-        (0, spawn(0, 0, 0, &[0]), BrokenRule::Cowns),
-        (1, spawn(1, 0, 1, &[]), BrokenRule::ParentNotRunning),
-        (2, spawn(1, 0, 0, &[]), BrokenRule::Offset),
-        (2, spawn(1, 0, 1_000_001, &[]), BrokenRule::Offset),
-        (2, spawn(1, 0, 1, &[2]), BrokenRule::Cowns),
-        (2, spawn(1, 0, 1, &[1, 0]), BrokenRule::Cowns),
-        (2, spawn(1, 0, 1, &[0, 0]), BrokenRule::Cowns),
-        (3, spawn(2, 0, 2, &[]), BrokenRule::Offset),
-        (4, spawn(3, 1, 9, &[]), BrokenRule::ParentNotRunning),
-        (12, spawn(4, 0, 9, &[]), BrokenRule::ParentNotRunning),
-    ];
-    are_refused(&rt, rt.alloc(), &cases);
-}
-
-#[test]
-fn first_of_several_broken_rules_is_told(rt: HostRuntime) {
-    let cases = [
-        (2, spawn(5, 9, 0, &[7]), BrokenRule::NumberNotNext),
-        (2, spawn(1, 9, 0, &[7]), BrokenRule::ParentNotRunning),
-        (2, spawn(1, 0, 0, &[7]), BrokenRule::Offset),
-        (0, spawn(0, 1, 1, &[0]), BrokenRule::ParentNotRunning),
-        (0, spawn(0, 0, 1, &[0]), BrokenRule::Offset),
-    ];
-    are_refused(&rt, rt.alloc(), &cases);
-}
-
-#[test]
-fn starts_are_judged(rt: HostRuntime) {
-    let alloc = rt.alloc();
-    let starts = [
-        (0, 0),
-        (5, 2),
-        (5, 3),
-        (5, 0),
-        (5, 4),
-        (7, 2),
-        (9, 3),
-        (12, 1),
-    ];
-    for (count, row) in starts {
-        refuses(&rt, alloc, count, &start(row), BrokenRule::StartNotAllowed);
-    }
-}
-
-#[test]
-fn ends_are_judged(rt: HostRuntime) {
-    let alloc = rt.alloc();
-    let ends: [(usize, u32, u32, &[u32]); 11] = [
-        (0, 0, 1, &[]),
-        (2, 0, 0, &[]),
-        (5, 0, 3, &[]),
-        (5, 0, 1_000_001, &[]),
-        (5, 0, 4, &[0]),
-        (5, 1, 1, &[]),
-        (7, 1, 2, &[1]),
-        (7, 1, 2, &[0, 0]),
-        (9, 2, 3, &[1, 0]),
-        (9, 2, 3, &[0, 2]),
-        (12, 1, 2, &[]),
-    ];
-    for (count, row, ticks, written) in ends {
-        let event = end(row, ticks, written);
-        refuses(&rt, alloc, count, &event, BrokenRule::EndNotAllowed);
-    }
+    let rules = two_cowns(&rt, rt.alloc());
+    assert!(rt; !rules.is_complete());
+    let mut rules = rules.into_record().err().expect(&rt, "no record yet");
+    take_transfer(&rt, &mut rules, [0; 12]);
+    has_record(&rt, rules);
 }
 
 #[test]
@@ -223,13 +98,7 @@ fn rooms_are_counted(rt: HostRuntime) {
     rules.make_room().expect(&rt, "memory");
     rules.make_room().expect(&rt, "memory");
     assert_eq!(rt; rules.rooms(), 2);
-    // The events of the transfer, and the rooms that each leaves.
-    let left = [1, 1, 0, 0, 0, 0, 0, 0, 0, 0, 0, 0];
-    for (event, rooms) in transfer().iter().zip(left) {
-        rules.apply(event).expect(&rt, "an event that is allowed");
-        assert_eq!(rt; rules.rooms(), rooms);
-    }
-    assert!(rt; rules.is_complete());
+    take_transfer(&rt, &mut rules, [1, 1, 0, 0, 0, 0, 0, 0, 0, 0, 0, 0]);
 }
 
 #[test]
@@ -248,7 +117,7 @@ fn rules_put_what_is_allowed(rt: HostRuntime) {
 
 // A fault is told so, and no other way.
 fn tells(rt: &impl Abort, alloc: Global, fault: &RuleFault, text: &str) {
-    let told = format!(in alloc; "{fault}").expect(rt, "memory");
+    let told = fault.to_string(alloc).expect(rt, "memory");
     assert_eq!(rt; told.as_str(), text);
     assert_eq!(rt; fault.text(), text);
 }
@@ -314,13 +183,13 @@ fn judge_follows_a_run(rt: HostRuntime) {
     if judge.judge(&child).is_ok() && judge.has_room_for(&child) {
         judge.put(child);
     }
-    assert_eq!(rt; [judge.count(), judge.rooms()], [2, 0]);
+    assert_eq!(rt; (judge.count(), judge.rooms()), (2, 0));
     let cowns = judge.cowns_of(1).expect(&rt, "the child");
     assert_eq!(rt; cowns.as_slice(), [0].as_slice());
     assert!(rt; judge.cowns_of(2).is_none());
     // The child was spawned at tick 3.
-    let early = judge.take(end(0, 2, &[]));
-    assert_eq!(rt; broken(early), Some(BrokenRule::EndNotAllowed));
-    assert!(rt; !judge.is_complete());
-    assert!(rt; judge.into_rows().is_err());
+    let early = judge.judge(&end(0, 2, &[]));
+    assert_eq!(rt; early, Err(BrokenRule::EndNotAllowed));
+    assert!(rt; judge.take(end(0, 2, &[])).is_err());
+    assert!(rt; !judge.is_complete() && judge.into_rows().is_err());
 }

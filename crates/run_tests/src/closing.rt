@@ -2,15 +2,13 @@
 
 ghost use Rattle.std.specs.Prelude.{◌≡◌};
 
-use crate::runs::{NO_COWNS, TRANSFER};
-use crate::workers::program;
+use crate::workers::{NO_COWNS, TRANSFER, program};
 use boc_program::program::Program;
 use boc_registers::compiled::CompiledProgram;
 use boc_workers::{OpenGate, RunAnswer, RunFault, Shared};
 use std::alloc::Global;
 use std::marker::Brand;
 use std::sync::ledger::{Blank, Ledger};
-use std::test::*;
 
 // What a run of a dispatcher's program answers to another program, where its one worker ends at once and a fault was noted, if any.
 fn closed<L: Ledger + Send + Sync>(
@@ -46,10 +44,10 @@ fn fault_of(alloc: Global, own: &Program, asked: &Program, noted: bool) -> Optio
 }
 
 #[test]
-fn strangers_come_first_and_unfinished_runs_last(rt: HostRuntime) -> Result<(), Fail> {
+fn strangers_come_first_and_unfinished_runs_last(rt: HostRuntime) {
     let alloc = rt.alloc();
-    let own = program(alloc, TRANSFER)?;
-    let other = program(alloc, NO_COWNS)?;
+    let own = program(&rt, alloc, TRANSFER);
+    let other = program(&rt, alloc, NO_COWNS);
     for (asked, noted, fault) in [
         (&other, false, RunFault::Stranger),
         (&other, true, RunFault::Stranger),
@@ -58,5 +56,4 @@ fn strangers_come_first_and_unfinished_runs_last(rt: HostRuntime) -> Result<(), 
     ] {
         assert_eq!(rt; fault_of(alloc, &own, asked, noted), Some(fault));
     }
-    Ok(())
 }

@@ -1,4 +1,4 @@
-//! The tests of runs by threads and of commands whose source or sink fails, over the public calls of the libraries.
+//! The tests of runs by threads with a gate, over the public calls of the libraries.
 #![tactic(auto)]
 
 #[cfg(test)]
@@ -7,7 +7,5 @@ mod closing;
 mod commands;
 #[cfg(test)]
 mod gates;
-#[cfg(test)]
-mod runs;
 #[cfg(test)]
 mod workers;

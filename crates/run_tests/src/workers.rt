@@ -1,88 +1,49 @@
-//! Whole runs by one worker and by several: the steps that they make, and where the lock is free.
+//! Whole runs with one worker or several: the steps that they make, and when the lock is free.
 
 use crate::gates::{Counting, Meeting, Overtaking, Place};
-use crate::runs::{NO_COWNS, PEEK_AND_SET, TRANSFER};
-use boc_eval::{Frame, Stop};
 use boc_program::program::Program;
-use boc_program::short::{Args, Input, Inputs};
 use boc_reader::read_program;
-use boc_registers::compiled::{CompiledBody, CompiledProgram};
-use boc_runs::rows::Row;
-use boc_workers::{OpenGate, RunAnswer, run};
+use boc_workers::{RunAnswer, run};
 use std::alloc::Global;
 use std::process::Abort;
-use std::test::*;
+use std::sync::Wait;
+use std::thread::Threads;
+
+// Two deposits and a transfer between two accounts.
+pub(crate) const TRANSFER: &str = "cown a = 10; cown b = 0;
+def add(k; x) { x = x + k; }
+def move(k; x, y) { x = x - k; y = y + k; }
+main { when add(5; a); when move(3; a, b); when add(1; b); }
+";
+
+// Behaviours without cowns.
+pub(crate) const NO_COWNS: &str = "def f(;) { work 3; } main { when f(;); when f(;); }";
+
+// Two behaviours that read a cown, and one that writes it.
+const PEEK_AND_SET: &str = "cown a = 1;
+def peek(; x) { let y = x; work 5; } def set(; x) { x = x; }
+main { when peek(; a); when peek(; a); when set(; a); }";
+
+// Two behaviours, each of which asks for another: the one over a and b, the other over a alone.
+pub(crate) const TWO_ORDERS: &str = "cown a = 0; cown b = 0; cown p = 0; cown q = 0;
+def one(; x, y) { x = x + 1; y = y + 1; }
+def two(; x) { x = x * 10; }
+def left(; g) { when one(; a, b); }
+def right(; g) { when two(; a); }
+main { when left(; p); when right(; q); }";
+
+// The same where the other one asks for its own cown.
+const APART: &str = "cown a = 0; cown b = 0; cown p = 0; cown q = 0;
+def one(; x, y) { x = x + 1; y = y + 1; }
+def two(; x) { x = x * 10; }
+def left(; g) { when one(; a, b); }
+def right(; g) { when two(; g); }
+main { when left(; p); when right(; q); }";
 
 // The program that a text spells.
-pub(crate) fn program(alloc: Global, text: &str) -> Result<Program, Fail> {
-    match read_program(alloc, text.as_bytes()) {
-        Ok(program) => Ok(program),
-        Err(_) => Err("the text spells a program".into()),
-    }
-}
-
-// A program in which row 1 asks for a and b, and row 2, which has q, for `second`.
-fn two_orders(alloc: Global, second: &str) -> Result<Program, Fail> {
-    let text = format!(in alloc;
-        "cown a = 0; cown b = 0; cown p = 0; cown q = 0;
-         def one(; x, y) {{ x = x + 1; y = y + 1; }}
-         def two(; x) {{ x = x * 10; }}
-         def left(; g) {{ when one(; a, b); }}
-         def right(; g) {{ when two(; {second}); }}
-         main {{ when left(; p); when right(; q); }}"
-    )?;
-    program(alloc, &text)
-}
-
-// Runs a body that takes no values over the first cowns, of which there are as many as values are given, and gives them
-// what it leaves there.
-fn run_over(
-    rt: &impl Abort,
-    alloc: Global,
-    compiled: CompiledBody<'_>,
-    values: &mut [i64],
-) -> Result<(), Fail> {
-    let mut inputs = Inputs::new();
-    for value in values.iter() {
-        assert!(rt; inputs.len() < 8);
-        let cown = inputs.len() as u32;
-        inputs.push(Input {
-            cown,
-            value: *value,
-        });
-    }
-    let body = compiled.body();
-    assert!(rt; body.params == 0 && inputs.len() == body.cown_params);
-    let mut frame = Frame::new(alloc, compiled, Args::new(), inputs)?;
-    assert!(rt; matches!(frame.run(), Stop::Ended));
-    assert!(rt; frame.is_ended());
-    let outcome = frame.into_outcome();
-    for (value, left) in values.iter_mut().zip(outcome.outputs()) {
-        *value = *left;
-    }
-    Ok(())
-}
-
-// The values of a and b after these rows of two orders: `one` ran over both, and `two` over a alone.
-fn values_after(
-    rt: &impl Abort,
-    alloc: Global,
-    program: &Program,
-    rows: &[Row],
-) -> Result<[i64; 2], Fail> {
-    if program.bodies.as_slice().len() < 3 {
-        return Err("one and two are there".into());
-    }
-    let compiled = CompiledProgram::new(alloc, program)?;
-    let mut values = [0; 2];
-    for row in rows {
-        if row.cowns.as_slice() == [0, 1].as_slice() {
-            run_over(rt, alloc, compiled.body(1), &mut values)?;
-        } else if row.cowns.as_slice() == [0].as_slice() {
-            run_over(rt, alloc, compiled.body(2), &mut values[..1])?;
-        }
-    }
-    Ok(values)
+pub(crate) fn program(rt: &impl Abort, alloc: Global, text: &str) -> Program {
+    let program = read_program(alloc, text.as_bytes()).ok();
+    program.expect(rt, "a program")
 }
 
 // How many steps all workers made.
@@ -94,86 +55,55 @@ fn all_made(answer: &RunAnswer) -> u64 {
     all
 }
 
+// A run has this many events and steps, and each worker asks the gate after each of its steps.
+fn asks_after_steps<R: Abort + Threads + Wait + Sync>(
+    rt: &R,
+    alloc: Global,
+    program: &Program,
+    workers: u32,
+    counts: (usize, u64),
+) {
+    assert!(rt; (1..=16).contains(&workers));
+    let gate = Counting::new(rt);
+    let answer = run(rt, alloc, program, workers, &gate).expect(rt, "a run");
+    assert_eq!(rt; (answer.record.events().len(), all_made(&answer)), counts);
+    let all = gate.counts();
+    let (asked, others) = all.split_at(workers as usize);
+    assert_eq!(rt; answer.made.as_slice(), asked);
+    assert!(rt; others.iter().all(|count| *count == 0));
+}
+
 #[test]
-fn workers_make_all_steps(rt: HostRuntime) -> Result<(), Fail> {
-    for (text, events, steps) in [
-        (TRANSFER, 12, 30),
-        (NO_COWNS, 9, 10),
-        (PEEK_AND_SET, 12, 26),
+fn each_worker_is_told_to_the_gate(rt: HostRuntime) {
+    for (text, counts) in [
+        (TRANSFER, (12, 30)),
+        (NO_COWNS, (9, 10)),
+        (PEEK_AND_SET, (12, 26)),
     ] {
-        let program = program(rt.alloc(), text)?;
+        let program = program(&rt, rt.alloc(), text);
         for workers in [1, 2, 16] {
-            let answer = run(&rt, rt.alloc(), &program, workers, &OpenGate)?;
-            assert_eq!(rt; answer.record.events().len(), events);
-            assert_eq!(rt; answer.made.len(), workers as usize);
-            assert_eq!(rt; all_made(&answer), steps);
+            asks_after_steps(&rt, rt.alloc(), &program, workers, counts);
         }
     }
-    Ok(())
-}
-
-// Forty behaviours, of which every third ends by a fault.
-const FAULTS: &str = "cown a = 0; def f(n; x) { x = 1 / (n % 3); }
-main { let n = 0; repeat 40 { when f(n; a); n = n + 1; } }";
-
-#[test]
-fn first_rows_that_ended_by_a_fault_are_told_of(rt: HostRuntime) -> Result<(), Fail> {
-    let program = program(rt.alloc(), FAULTS)?;
-    for workers in [1, 2, 16] {
-        let answer = run(&rt, rt.alloc(), &program, workers, &OpenGate)?;
-        let mut rows = Vec::new(rt.alloc());
-        for told in &answer.told {
-            assert_eq!(rt; told.kind, 1);
-            assert_eq!(rt; told.args.as_slice(), [i64::from(told.row) - 1].as_slice());
-            assert_eq!(rt; told.cowns.as_slice(), [0].as_slice());
-            rows.push(told.row)?;
-        }
-        rows.sort()?;
-        assert_eq!(rt;
-            rows.as_slice(),
-            [1, 4, 7, 10, 13, 16, 19, 22, 25, 28].as_slice()
-        );
-    }
-    Ok(())
 }
 
 #[test]
-fn each_worker_is_told_to_the_gate(rt: HostRuntime) -> Result<(), Fail> {
-    for text in [TRANSFER, NO_COWNS, PEEK_AND_SET] {
-        let program = program(rt.alloc(), text)?;
-        for workers in [1, 2, 16] {
-            let gate = Counting::new(&rt);
-            let answer = run(&rt, rt.alloc(), &program, workers, &gate)?;
-            let counts = gate.counts();
-            let (asked, others) = counts.split_at(workers as usize);
-            assert_eq!(rt; answer.made.as_slice(), asked);
-            assert!(rt; others.iter().all(|count| *count == 0));
-        }
-    }
-    Ok(())
-}
-
-#[test]
-fn lock_is_free_after_a_swap(rt: HostRuntime) -> Result<(), Fail> {
-    let program = two_orders(rt.alloc(), "a")?;
+fn lock_is_free_after_a_swap(rt: HostRuntime) {
+    let program = program(&rt, rt.alloc(), TWO_ORDERS);
     let gate = Meeting::new(&rt, Place::AfterSwap);
-    let answer = run(&rt, rt.alloc(), &program, 2, &gate)?;
+    let answer = run(&rt, rt.alloc(), &program, 2, &gate).expect(&rt, "a run");
     assert!(rt; gate.both_came());
-    assert_eq!(rt; all_made(&answer), 38);
-    let rows = answer.record.rows().as_slice();
-    assert_eq!(rt; rows.len(), 5);
-    let one_comes_first = rows[3].cowns.as_slice().len() == 2;
-    let values = values_after(&rt, rt.alloc(), &program, rows)?;
-    assert_eq!(rt; values, if one_comes_first { [10, 1] } else { [1, 1] });
-    Ok(())
+    assert_eq!(rt;
+        (answer.record.rows().as_slice().len(), all_made(&answer)),
+        (5, 38)
+    );
 }
 
 #[test]
-fn one_enqueue_overtakes_another(rt: HostRuntime) -> Result<(), Fail> {
-    let program = two_orders(rt.alloc(), "g")?;
-    let answer = run(&rt, rt.alloc(), &program, 2, &Overtaking::new(&rt))?;
+fn one_enqueue_overtakes_another(rt: HostRuntime) {
+    let program = program(&rt, rt.alloc(), APART);
+    let gate = Overtaking::new(&rt);
+    let answer = run(&rt, rt.alloc(), &program, 2, &gate).expect(&rt, "a run");
     let rows = answer.record.rows().as_slice();
-    let parents = rows.iter().map(|row| row.parent);
-    assert!(rt; parents.eq([0, 0, 0, 2, 1]));
-    Ok(())
+    assert!(rt; rows.iter().map(|row| row.parent).eq([0, 0, 0, 2, 1]));
 }

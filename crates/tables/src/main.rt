@@ -25,7 +25,8 @@ use boc_greedy::{Greedy, greedy};
 use boc_order::profile;
 use boc_plans::sharing::Sharing;
 use boc_plans::workers::Workers;
-use boc_program::limits::MOST_COWNS;
+use boc_program::program::Program;
+use boc_progress::Silent;
 use boc_reader::read_program;
 use boc_record::{RecordFault, WriteFault, put_events, read_record, write_record};
 use boc_registers::compiled::CompiledProgram;
@@ -40,86 +41,78 @@ use std::thread::Threads;
 
 /// What a text of the table is meant to be.
 #[derive(Clone, Copy)]
-enum Kind {
+enum Word {
     Program,
     Record,
-    Plan { asked: Asked, sharing: Sharing },
-    Drive { workers: u32 },
-    Quiet { workers: u32 },
-    Follow { program: usize },
+    Report,
+    Edit,
+    Sweep,
+    Drive,
+    Quiet,
+    Follow,
 }
 
-/// What is asked of the plans of a record's rows.
+// The words that name them.
+const WORDS: &[(&str, Word)] = &[
+    ("program", Word::Program),
+    ("record", Word::Record),
+    ("report", Word::Report),
+    ("edit", Word::Edit),
+    ("sweep", Word::Sweep),
+    ("drive", Word::Drive),
+    ("quiet", Word::Quiet),
+    ("follow", Word::Follow),
+];
+
+/// What a text of the table is meant to be, how plans share reads, and the numbers behind the word, or 0 where there is none.
 #[derive(Clone, Copy)]
-enum Asked {
-    Report { workers: Option<Workers> },
-    Edit { row: u32, ticks: u32 },
-    Sweep,
+struct Kind {
+    word: Word,
+    sharing: Sharing,
+    first: u32,
+    second: u32,
+}
+
+// What a name stands for.
+fn word_of(name: &str) -> Option<Word> {
+    for (spelling, word) in WORDS {
+        if *spelling == name {
+            return Some(*word);
+        }
+    }
+    None
+}
+
+// The first of some words, and the words behind it.
+fn first_word(words: &str) -> (&str, &str) {
+    match words.split_once(' ') {
+        Some(parts) => parts,
+        None => (words, ""),
+    }
+}
+
+// The number that a word is, or 0 where there is no word.
+fn number(word: &str) -> Option<u32> {
+    if word.is_empty() {
+        return Some(0);
+    }
+    word.parse().ok()
 }
 
 // The kind that some words name.
 fn kind_of(words: &str) -> Option<Kind> {
-    match words {
-        "program" => Some(Kind::Program),
-        "record" => Some(Kind::Record),
-        _ => run_kind(words).or(plan_kind(words)),
-    }
-}
-
-// What some words ask of plans. With `shared ` in front of them reads are shared.
-fn plan_kind(words: &str) -> Option<Kind> {
-    let (asked, sharing) = match words.strip_prefix("shared ") {
-        Some(words) => (asked_of(words)?, Sharing::SharedReads),
-        None => (asked_of(words)?, Sharing::Exclusive),
+    let (words, sharing) = match words.strip_prefix("shared ") {
+        Some(words) => (words, Sharing::SharedReads),
+        None => (words, Sharing::Exclusive),
     };
-    Some(Kind::Plan { asked, sharing })
-}
-
-// What a word asks of plans, with as many numbers behind it as it wants.
-fn asked_of(words: &str) -> Option<Asked> {
-    match words {
-        "report" => Some(Asked::Report { workers: None }),
-        "sweep" => Some(Asked::Sweep),
-        _ => asked_with_numbers(words),
-    }
-}
-
-// What a word asks of plans with one or two numbers behind it.
-fn asked_with_numbers(words: &str) -> Option<Asked> {
-    match words.split_once(' ')? {
-        ("report", workers) => {
-            let workers = Workers::new(workers.parse().ok()?)?;
-            Some(Asked::Report {
-                workers: Some(workers),
-            })
-        }
-        ("edit", numbers) => {
-            let (row, ticks) = numbers.split_once(' ')?;
-            let row = row.parse().ok()?;
-            let ticks = ticks.parse().ok()?;
-            Some(Asked::Edit { row, ticks })
-        }
-        _ => None,
-    }
-}
-
-// The drive that a word names with a number of workers behind it.
-fn run_kind(words: &str) -> Option<Kind> {
-    match words.split_once(' ')? {
-        ("drive", workers) => {
-            let workers = workers.parse().ok()?;
-            Some(Kind::Drive { workers })
-        }
-        ("quiet", workers) => {
-            let workers = workers.parse().ok()?;
-            Some(Kind::Quiet { workers })
-        }
-        ("follow", len) => {
-            let program = len.parse().ok()?;
-            Some(Kind::Follow { program })
-        }
-        _ => None,
-    }
+    let (name, numbers) = first_word(words);
+    let (first, second) = first_word(numbers);
+    Some(Kind {
+        word: word_of(name)?,
+        sharing,
+        first: number(first)?,
+        second: number(second)?,
+    })
 }
 
 // The first line of some bytes, and what stands behind it.
@@ -149,8 +142,8 @@ fn first_text(table: &[u8]) -> Option<(Kind, &[u8], &[u8])>
 // Writes the line on a program's text.
 fn tell_program(rt: HostRuntime, text: &[u8]) -> io::Result<()> {
     match read_program(rt.alloc(), text) {
-        Ok(_) => println!(rt; "ok"),
-        Err(fault) => println!(rt; "{fault}"),
+        Ok(_) => rt.println("ok"),
+        Err(fault) => rt.println(fault),
     }
 }
 
@@ -172,22 +165,31 @@ fn text_of(rt: HostRuntime, record: &Record) -> Result<Vec<u8>, WriteFault> {
 fn tell_record(rt: HostRuntime, text: &[u8]) -> io::Result<()> {
     let record = match record_of(rt, text)? {
         Ok(record) => record,
-        Err(fault) => return println!(rt; "{fault}"),
+        Err(fault) => return rt.println(fault),
     };
-    let rows = record.rows().as_slice().len();
-    let written = match text_of(rt, &record) {
-        Ok(written) => written,
-        Err(fault) => return println!(rt; "{fault}"),
-    };
-    if written.as_slice() == text {
-        return println!(rt; "ok {rows}");
+    match text_of(rt, &record) {
+        Ok(written) => tell_written(rt, text, &written, record.rows().as_slice().len()),
+        Err(fault) => rt.println(fault),
     }
-    match record_of(rt, &written)? {
-        Ok(again)
-            if text_of(rt, &again).is_ok_and(|twice| twice.as_slice() == written.as_slice()) => {
-            println!(rt; "ok {rows}, written in version 2")
-        }
-        _ => println!(rt; "another text"),
+}
+
+// Writes the line on a record of so many rows that is written again as this.
+fn tell_written(rt: HostRuntime, text: &[u8], written: &[u8], rows: usize) -> io::Result<()> {
+    let version = if written == text {
+        ""
+    } else if is_written_again(rt, written)? {
+        ", written in version 2"
+    } else {
+        return rt.println("another text");
+    };
+    println!(rt; "ok {rows}{version}")
+}
+
+// Whether a record's text is written again as it is.
+fn is_written_again(rt: HostRuntime, text: &[u8]) -> io::Result<bool> {
+    match record_of(rt, text)? {
+        Ok(record) => Ok(text_of(rt, &record).is_ok_and(|written| written.as_slice() == text)),
+        Err(_) => Ok(false),
     }
 }
 
@@ -207,75 +209,65 @@ fn greedy_for(
     }
 }
 
-// Writes the report on a record, or the line on a text that is none.
+// Writes the report on some rows.
 fn tell_report(
     rt: HostRuntime,
-    text: &[u8],
+    rows: &Rows,
     workers: Option<Workers>,
     sharing: Sharing,
 ) -> io::Result<()> {
-    let record = match record_of(rt, text)? {
-        Ok(record) => record,
-        Err(fault) => return println!(rt; "{fault}"),
-    };
-    let found = profile(rt.alloc(), record.rows(), sharing)?;
-    let plan = greedy_for(rt.alloc(), record.rows(), workers, sharing)?;
+    let found = profile(rt.alloc(), rows, sharing)?;
+    let plan = greedy_for(rt.alloc(), rows, workers, sharing)?;
     let report = profile_text(rt.alloc(), &found, plan.as_ref())?;
     rt.stdout().write_all(&report)
 }
 
-// Writes the report on a record after an edit, or why the edit is refused.
+// Writes the report on rows after an edit, or why the edit is refused.
 fn tell_edit(
     rt: HostRuntime,
-    text: &[u8],
+    rows: &Rows,
     row: u32,
     ticks: u32,
     sharing: Sharing,
 ) -> io::Result<()> {
-    let record = match record_of(rt, text)? {
-        Ok(record) => record,
-        Err(fault) => return println!(rt; "{fault}"),
-    };
-    let mut question = WhatIf::new(rt.alloc(), record.rows(), sharing)?;
-    match question.edit(row, ticks) {
-        Ok(()) => {
-            let found = question.profile(rt.alloc())?;
-            let report = profile_text(rt.alloc(), &found, None)?;
-            rt.stdout().write_all(&report)
-        }
-        Err(fault) => println!(rt; "{fault:?}"),
+    let mut question = WhatIf::new(rt.alloc(), rows, sharing)?;
+    if let Err(fault) = question.edit(row, ticks) {
+        return println!(rt; "{fault:?}");
     }
+    let found = question.profile(rt.alloc())?;
+    let report = profile_text(rt.alloc(), &found, None)?;
+    rt.stdout().write_all(&report)
 }
 
-// Writes the sweep of a record, which may start threads.
+// Writes the sweep of rows, which may start threads.
 fn tell_sweep(
     rt: HostRuntime,
     threads: &(impl Threads + Sync),
-    text: &[u8],
+    rows: &Rows,
     sharing: Sharing,
 ) -> io::Result<()> {
-    let record = match record_of(rt, text)? {
-        Ok(record) => record,
-        Err(fault) => return println!(rt; "{fault}"),
-    };
-    let question = WhatIf::new(rt.alloc(), record.rows(), sharing)?;
+    let question = WhatIf::new(rt.alloc(), rows, sharing)?;
     let spans = question.sweep(threads, rt.alloc())?;
     let lines = sweep_text(rt.alloc(), 0, &spans)?;
     rt.stdout().write_all(&lines)
 }
 
-// Writes what is asked of the plans of a record's rows.
+// Writes what is asked of the plans of a record's rows, or the line on a text that is none.
 fn tell_plan(
     rt: HostRuntime,
     threads: &(impl Threads + Sync),
     text: &[u8],
-    asked: Asked,
-    sharing: Sharing,
+    kind: Kind,
 ) -> io::Result<()> {
-    match asked {
-        Asked::Report { workers } => tell_report(rt, text, workers, sharing),
-        Asked::Edit { row, ticks } => tell_edit(rt, text, row, ticks, sharing),
-        Asked::Sweep => tell_sweep(rt, threads, text, sharing),
+    let record = match record_of(rt, text)? {
+        Ok(record) => record,
+        Err(fault) => return rt.println(fault),
+    };
+    let (rows, sharing) = (record.rows(), kind.sharing);
+    match kind.word {
+        Word::Edit => tell_edit(rt, rows, kind.first, kind.second, sharing),
+        Word::Sweep => tell_sweep(rt, threads, rows, sharing),
+        _ => tell_report(rt, rows, Workers::new(kind.first), sharing),
     }
 }
 
@@ -313,11 +305,9 @@ fn put_end<C: Chains + Drop>(text: &mut Vec<u8>, run: &Core<'_, C>) -> Result<()
         text.push(b',')?;
     }
     text.extend_from_slice(b" quiet\nvalues")?;
-    for cown in 0..MOST_COWNS as u32 {
-        if let Some(value) = run.value(cown) {
-            text.push(b' ')?;
-            put_signed(text, value)?;
-        }
+    for value in run.values() {
+        text.push(b' ')?;
+        put_signed(text, *value)?;
     }
     text.push(b'\n')?;
     Ok(())
@@ -327,8 +317,8 @@ fn put_end<C: Chains + Drop>(text: &mut Vec<u8>, run: &Core<'_, C>) -> Result<()
 fn tell_drive_fault(rt: HostRuntime, fault: DriveFault) -> io::Result<()> {
     match fault {
         DriveFault::NoSuchWorker { place } => println!(rt; "NoSuchWorker at {place}"),
-        DriveFault::Behaviours => println!(rt; "Behaviours"),
-        DriveFault::Memory => println!(rt; "Memory"),
+        DriveFault::Behaviours => rt.println("Behaviours"),
+        DriveFault::Memory => rt.println("Memory"),
     }
 }
 
@@ -345,7 +335,7 @@ fn tell_both(
     if are_the_same {
         return Ok(());
     }
-    println!(rt; "but over plain chains:")?;
+    rt.println("but over plain chains:")?;
     tell_one(rt, plain)
 }
 
@@ -398,7 +388,7 @@ fn tell_mover(
     match drive(rt.alloc(), program, workers, choices) {
         Ok(run) => match run.movable() {
             Some(mover) => println!(rt; "{mover:?}"),
-            None => println!(rt; "nobody"),
+            None => rt.println("nobody"),
         },
         Err(fault) => tell_drive_fault(rt, fault),
     }
@@ -422,19 +412,29 @@ fn tell_quiet(
 // Writes what becomes of a program with the choices in front of it, as one kind of drive asks.
 fn tell_driven(rt: HostRuntime, text: &[u8], workers: u32, until_quiet: bool) -> io::Result<()> {
     let Some((letters, text)) = first_line(text) else {
-        return println!(rt; "no choices");
+        return rt.println("no choices");
     };
-    let program = match read_program(rt.alloc(), text) {
-        Ok(program) => program,
-        Err(fault) => return println!(rt; "{fault}"),
-    };
-    let compiled = CompiledProgram::new(rt.alloc(), &program)?;
     let choices = choices_of(rt.alloc(), letters)?;
+    match read_program(rt.alloc(), text) {
+        Ok(program) => tell_choices(rt, &program, workers, &choices, until_quiet),
+        Err(fault) => rt.println(fault),
+    }
+}
+
+// Writes what becomes of a program with these choices.
+fn tell_choices(
+    rt: HostRuntime,
+    program: &Program,
+    workers: u32,
+    choices: &[u16],
+    until_quiet: bool,
+) -> io::Result<()> {
+    let compiled = CompiledProgram::new(rt.alloc(), program)?;
     if until_quiet {
-        tell_mover(rt, &compiled, workers, &choices)?;
-        tell_quiet(rt, &compiled, workers, &choices)
+        tell_mover(rt, &compiled, workers, choices)?;
+        tell_quiet(rt, &compiled, workers, choices)
     } else {
-        tell_drive(rt, &compiled, workers, &choices)
+        tell_drive(rt, &compiled, workers, choices)
     }
 }
 
@@ -455,24 +455,45 @@ fn values_text(alloc: Global, values: &[i64]) -> Result<Vec<u8>, AllocError> {
 // Writes whether the record behind a program of so many bytes is that of a run of it.
 fn tell_followed(rt: HostRuntime, text: &[u8], len: usize) -> io::Result<()> {
     if len > text.len() {
-        return println!(rt; "no program");
+        return rt.println("no program");
     }
     let (text, behind) = text.split_at(len);
     let program = match read_program(rt.alloc(), text) {
         Ok(program) => program,
-        Err(fault) => return println!(rt; "{fault}"),
+        Err(fault) => return rt.println(fault),
     };
-    let record = match record_of(rt, behind)? {
-        Ok(record) => record,
-        Err(fault) => return println!(rt; "{fault}"),
-    };
-    let compiled = CompiledProgram::new(rt.alloc(), &program)?;
-    match follow_record(rt.alloc(), &compiled, &record) {
+    match record_of(rt, behind)? {
+        Ok(record) => tell_run(rt, &program, &record),
+        Err(fault) => rt.println(fault),
+    }
+}
+
+// Writes whether a record is that of a run of a program.
+fn tell_run(rt: HostRuntime, program: &Program, record: &Record) -> io::Result<()> {
+    let compiled = CompiledProgram::new(rt.alloc(), program)?;
+    match follow_record(rt.alloc(), &compiled, record, &mut Silent) {
         Ok(run) => {
             let values = values_text(rt.alloc(), run.values())?;
             rt.stdout().write_all(&values)
         }
-        Err(fault) => println!(rt; "{fault}"),
+        Err(fault) => rt.println(fault),
+    }
+}
+
+// Writes what becomes of a text.
+fn tell(
+    rt: HostRuntime,
+    threads: &(impl Threads + Sync),
+    text: &[u8],
+    kind: Kind,
+) -> io::Result<()> {
+    match kind.word {
+        Word::Program => tell_program(rt, text),
+        Word::Record => tell_record(rt, text),
+        Word::Report | Word::Edit | Word::Sweep => tell_plan(rt, threads, text, kind),
+        Word::Drive => tell_driven(rt, text, kind.first, false),
+        Word::Quiet => tell_driven(rt, text, kind.first, true),
+        Word::Follow => tell_followed(rt, text, kind.first as usize),
     }
 }
 
@@ -481,14 +502,7 @@ fn main(rt: HostRuntime) -> io::Result<()> {
     rt.stdin().read_to_end(&mut table)?;
     let mut rest = table.as_slice();
     while let Some((kind, text, behind)) = first_text(rest) {
-        match kind {
-            Kind::Program => tell_program(rt, text)?,
-            Kind::Record => tell_record(rt, text)?,
-            Kind::Plan { asked, sharing } => tell_plan(rt, &rt, text, asked, sharing)?,
-            Kind::Drive { workers } => tell_driven(rt, text, workers, false)?,
-            Kind::Quiet { workers } => tell_driven(rt, text, workers, true)?,
-            Kind::Follow { program } => tell_followed(rt, text, program)?,
-        }
+        tell(rt, &rt, text, kind)?;
         rest = behind;
     }
     Ok(())

@@ -1,7 +1,5 @@
-//! The tests of texts and records, over the public calls of the libraries.
+//! The tests of counted readers and writers, over the public calls of the library.
 #![tactic(auto)]
 
 #[cfg(test)]
-mod record;
-#[cfg(test)]
-mod text;
+mod counted;

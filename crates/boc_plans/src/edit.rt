@@ -28,7 +28,7 @@ impl Model for Part {
 }
 
 impl Part {
-    /// This part, if both numbers are from 1 to 1,000.
+    /// Returns this part, if both numbers are from 1 to 1,000.
     pub fn new(over: u32, under: u32) -> Option<Part>
         ensures valid { IsSome result ↔ ((0 < over) × (over ≤ MOST_PART) × (0 < under) × (under ≤ MOST_PART)) }
         ensures over { IfSome result (λ part. part.over ≡ over) }
@@ -42,7 +42,7 @@ impl Part {
         }
     }
 
-    /// The numerator.
+    /// Returns the numerator.
     pub fn over(self) -> u32
         ensures value { result ≡ self.over }
         ensures some { 0 < self.over }
@@ -51,7 +51,7 @@ impl Part {
         self.over
     }
 
-    /// The denominator.
+    /// Returns the denominator.
     pub fn under(self) -> u32
         ensures value { result ≡ self.under }
         ensures some { 0 < self.under }
@@ -64,11 +64,11 @@ impl Part {
 /// What of a row is to change.
 #[derive(Clone, Copy, PartialEq, Eq, Debug)]
 pub enum Change {
-    /// It takes so many ticks.
+    /// It takes this many ticks.
     Ticks(u32),
     /// It is spawned at this tick of its parent.
     Offset(u32),
-    /// It costs this part of what it did, and spawns its children so much sooner or later.
+    /// It costs this part of what it did, and spawns its children this much sooner or later.
     Cost(Part),
 }
 
@@ -96,7 +96,7 @@ pub enum EditFault {
     /// The row is main, which no row spawned.
     #[error("main has no parent")]
     NoParent,
-    /// The offset isn't above the elder sibling's, or isn't below the younger sibling's, or is above the parent's ticks, or is 0.
+    /// The offset isn't above the earlier sibling's, or isn't below the later sibling's, or is above the parent's ticks, or is 0.
     #[error("the offset is not between those of the row's siblings, or is more than its parent's ticks")]
     NotBetween,
 }

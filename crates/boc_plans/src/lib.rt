@@ -5,4 +5,3 @@ pub mod chain;
 pub mod edit;
 pub mod sharing;
 pub mod sweep;
-pub mod workers;

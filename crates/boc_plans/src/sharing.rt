@@ -16,7 +16,7 @@ pub enum Sharing {
     SharedReads,
 }
 
-/// The ticks with which a row is seen in place of its own.
+/// The ticks with which a row is seen instead of its own.
 #[derive(Clone, Copy)]
 struct OtherTicks {
     row: u32,
@@ -47,7 +47,7 @@ impl<'a> Model for SeenRows<'a> {
     ghost invariant = { λ s. IsRows s.rows.now × IsRows (edited_by s.other s.rows.now) };
 }
 
-// The cown is one of these.
+// Returns whether the cown is one of these.
 fn is_among(cowns: &[HeldCown], cown: HeldCown) -> bool
     ensures { IsTrue result ↔ Contains cowns.now cown }
 {
@@ -59,7 +59,7 @@ impl<'a> SeenRows<'a> {
     ghost use Rattle.boc_plans.specs.Seen.{seen};
     ghost use Rattle.boc_runs.specs.Rows.{IsRows, Fits, edited, parent_of, offset_of, ticks_of, cowns_of, written_of};
 
-    /// These rows as plans see them. It takes no memory.
+    /// Returns these rows as plans see them. It takes no memory.
     pub fn new(rows: &'a Rows, sharing: Sharing) -> SeenRows<'a>
         ensures same { result ≡ seen sharing rows.now }
         ensures shape { IsRows result }
@@ -71,7 +71,7 @@ impl<'a> SeenRows<'a> {
         }
     }
 
-    /// These rows as plans see them, one of them with other ticks than it took. It takes no memory, and copies no row.
+    /// Returns these rows as plans see them, one of them with other ticks than it took. It takes no memory, and copies no row.
     pub fn with_ticks(rows: &'a Rows, sharing: Sharing, row: u32, ticks: u32) -> SeenRows<'a>
         requires { Fits rows.now row ticks }
         ensures same { result ≡ seen sharing (edited rows.now row ticks) }
@@ -84,7 +84,7 @@ impl<'a> SeenRows<'a> {
         }
     }
 
-    /// How many rows there are.
+    /// Returns how many rows there are.
     pub fn len(&self) -> usize
         ensures count { result ≡ length self.now }
         ensures shape { IsRows self.now }
@@ -92,7 +92,7 @@ impl<'a> SeenRows<'a> {
         self.rows.len()
     }
 
-    // A row, of which plans may see that it wrote more, or that it took other ticks.
+    // Returns a row, of which plans may see that it wrote more, or that it took other ticks.
     fn row(&self, row: usize) -> &Row
         requires { row < length self.now }
         ensures parent { result.now.parent ≡ parent_of self.now row }
@@ -103,7 +103,7 @@ impl<'a> SeenRows<'a> {
         &rows[row]
     }
 
-    /// The row that spawned a row; 0 for main.
+    /// Returns the row that spawned a row; 0 for main.
     pub fn parent(&self, row: usize) -> u32
         requires { row < length self.now }
         ensures { result ≡ parent_of self.now row }
@@ -111,7 +111,7 @@ impl<'a> SeenRows<'a> {
         self.row(row).parent
     }
 
-    /// The ticks that its parent had counted when a row was spawned; 0 for main.
+    /// Returns the ticks that its parent had counted when a row was spawned; 0 for main.
     pub fn offset(&self, row: usize) -> u32
         requires { row < length self.now }
         ensures { result ≡ offset_of self.now row }
@@ -119,7 +119,7 @@ impl<'a> SeenRows<'a> {
         self.row(row).offset
     }
 
-    /// The ticks with which a row is seen.
+    /// Returns the ticks with which a row is seen.
     pub fn ticks(&self, row: usize) -> u32
         requires { row < length self.now }
         ensures { result ≡ ticks_of self.now row }
@@ -137,7 +137,7 @@ impl<'a> SeenRows<'a> {
         }
     }
 
-    /// The cowns of a row, which rise strictly.
+    /// Returns the cowns of a row, which rise strictly.
     pub fn cowns(&self, row: usize) -> &[HeldCown]
         requires { row < length self.now }
         ensures { result.now ≡ cowns_of self.now row }
@@ -145,7 +145,7 @@ impl<'a> SeenRows<'a> {
         self.row(row).cowns.as_slice()
     }
 
-    /// The same cowns as the row keeps them: at most eight.
+    /// Returns the same cowns as the row keeps them: at most eight.
     pub fn held(&self, row: usize) -> &HeldCowns
         requires { row < length self.now }
         ensures { result.now.items ≡ cowns_of self.now row }
@@ -153,7 +153,7 @@ impl<'a> SeenRows<'a> {
         &self.row(row).cowns
     }
 
-    /// Whether a row counts as writing one of its cowns.
+    /// Returns whether a row counts as writing one of its cowns.
     pub fn writes(&self, row: usize, cown: HeldCown) -> bool
         requires there { row < length self.now }
         requires own { Contains (cowns_of self.now row) cown }

@@ -73,11 +73,11 @@ pub enum CownRef {
 pub enum Stmt {
     /// `let` or an assignment.
     Assign(usize, Expr),
-    /// So many ticks.
+    /// The given number of ticks.
     Work(Expr),
     /// The first block where the number isn't 0, else the second, which is empty where the text has none.
     If(Expr, Block, Block),
-    /// So many turns of the block.
+    /// The given number of turns of the block.
     Repeat(Expr, Block),
     /// A behaviour of this kind, with these arguments over these cowns. Main's kind is 0, and those of
     /// the defs are their places in the text, from 1.
@@ -113,14 +113,14 @@ impl Model for Block {
 impl Block {
     ghost use Rattle.boc_program.specs.memory.View.{code_of};
 
-    /// A block of these statements.
+    /// Returns a block of these statements.
     pub fn new(stmts: Vec<Stmt>) -> Block
         ensures { result ≡ code_of stmts.items }
     {
         Block { stmts }
     }
 
-    /// The statements.
+    /// Returns the statements.
     pub fn as_slice(&self) -> &[Stmt]
         ensures { code_of result.now ≡ self.now }
     {

@@ -11,7 +11,7 @@ ghost use Rattle.boc_program.specs.memory.Spent.{spent};
 use crate::body::{Body, CownRef, Expr, Stmt};
 use crate::cown::Cown;
 
-// The cown that a reference names is one of `cowns`, where `held` are held.
+// Returns whether the cown that a reference names is one of `cowns`, where `held` are held.
 fn ref_below(reference: &CownRef, held: usize, cowns: usize) -> bool
     ensures { result ≡ ref_below_spec held cowns (cown_ref_of reference.now) }
 {
@@ -31,7 +31,7 @@ fn refs_below(references: &[CownRef], held: usize, cowns: usize) -> bool
     }
 }
 
-// A `when` names a def, gives it as many arguments and cowns as it takes, and names cowns that are there.
+// Returns whether a `when` names a def, gives it as many arguments and cowns as it takes, and names cowns that are there.
 fn call_fits(
     bodies: &[Body],
     held: usize,
@@ -83,7 +83,7 @@ fn stmt_calls_fit(stmt: &Stmt, bodies: &[Body], held: usize, cowns: usize) -> bo
     }
 }
 
-/// Every `when` of these bodies fits, in a program that has all of `bodies`.
+/// Returns whether every `when` of these bodies fits, in a program that has all of `bodies`.
 pub(crate) fn calls_fit(callers: &[Body], bodies: &[Body], cowns: usize) -> bool
     ensures { result ≡ every (map (calls_fit_spec (map signature_of bodies.now) cowns) callers.now) }
 {
@@ -96,7 +96,7 @@ pub(crate) fn calls_fit(callers: &[Body], bodies: &[Body], cowns: usize) -> bool
     }
 }
 
-/// The first body takes nothing.
+/// Returns whether the first body takes nothing.
 pub(crate) fn has_main(bodies: &[Body]) -> bool
     ensures { result ≡ has_main_spec bodies.now }
 {
@@ -106,7 +106,7 @@ pub(crate) fn has_main(bodies: &[Body]) -> bool
     }
 }
 
-/// Every array has a member.
+/// Returns whether every array has a member.
 pub(crate) fn have_members(cowns: &[Cown]) -> bool
     ensures { result ≡ have_members_spec cowns.now }
 {
@@ -116,7 +116,7 @@ pub(crate) fn have_members(cowns: &[Cown]) -> bool
     }
 }
 
-/// What is left of a number of cowns after these declarations.
+/// Returns what is left of a number of cowns after these declarations.
 pub(crate) fn after_cowns(cowns: &[Cown], left: usize) -> Option<usize>
     ensures { spent result (cown_count cowns.now) left }
 {

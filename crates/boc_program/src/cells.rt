@@ -8,14 +8,14 @@ ghost use Rattle.boc_program.specs.memory.Cells.{expr_cells, exprs_cells, ref_ce
 use crate::body::{CownRef, Expr, Operator, Stmt};
 use std::alloc::AllocError;
 
-// The tag of a number, which tells its sign.
+// Returns the tag of a number, which reports its sign.
 fn sign_cell(number: i64) -> u64
     ensures { result ≡ sign_cell_spec number }
 {
     if number >= 0 { 1 } else { 2 }
 }
 
-// The tag of two operands with this operator between them.
+// Returns the tag of two operands with this operator between them.
 fn operator_cell(operator: Operator) -> u64
     ensures { result ≡ operator_cell_spec operator }
 {
@@ -34,7 +34,7 @@ fn operator_cell(operator: Operator) -> u64
     }
 }
 
-// Puts the cells of an expression behind those that are there.
+// Puts the cells of an expression after those that are there.
 fn put_expr(cells: &mut Vec<u64>, expr: &Expr) -> Result<(), AllocError>
     ensures { OnOk result (cells.new.items ≡ cells.old.items ++ expr_cells (slot_expr_of expr.now)) }
 {
@@ -117,7 +117,7 @@ fn put_refs(cells: &mut Vec<u64>, references: &[CownRef]) -> Result<(), AllocErr
     }
 }
 
-/// Puts the cells of statements, and their end, behind those that are there.
+/// Puts the cells of statements, and their end, after those that are there.
 #[cycle(put)]
 #[tactic(auto, using(crate::proofs::Followed::cells_before, crate::proofs::Followed::then_size, crate::proofs::Followed::then_positive))]
 pub(crate) fn put_stmts(cells: &mut Vec<u64>, stmts: &[Stmt]) -> Result<(), AllocError>

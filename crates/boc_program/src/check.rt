@@ -12,7 +12,7 @@ use crate::limits::{MOST_ARGUMENTS, MOST_COWNS, MOST_HELD, MOST_NODES, MOST_SLOT
 use crate::script::Script;
 use std::alloc::{AllocError, Global};
 
-// Every slot of an expression is there.
+// Returns whether every slot of an expression is there.
 fn expr_fits(expr: &Expr, slots: usize) -> bool
     ensures { result ≡ expr_fits_spec slots (slot_expr_of expr.now) }
 {
@@ -89,7 +89,7 @@ fn stmt_fits(stmt: &Stmt, slots: usize, cowns: usize) -> bool
     }
 }
 
-// What is left of a number of nodes after an expression.
+// Returns what is left of a number of nodes after an expression.
 fn after_expr(expr: &Expr, left: usize) -> Option<usize>
     ensures { spent result (expr_nodes (slot_expr_of expr.now)) left }
 {
@@ -156,7 +156,7 @@ fn after_stmt(stmt: &Stmt, left: usize) -> Option<usize>
 }
 
 impl Body {
-    /// A body of these parts, which fit together. This is the one place that makes a body.
+    /// Returns a body of these parts, which fit together. This is the one place that makes a body.
     ///
     /// `slots` counts the value parameters, the cown parameters and the locals. It takes memory for the cells
     /// of the block.
@@ -179,7 +179,7 @@ impl Body {
         })
     }
 
-    /// A body of these parts, or `None` where they break a limit or name a slot that is not there.
+    /// Returns a body of these parts, or `None` where they break a limit or name a slot that is not there.
     pub fn checked(
         alloc: Global,
         params: usize,

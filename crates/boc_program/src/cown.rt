@@ -14,7 +14,7 @@ pub struct Cown {
 }
 
 impl Cown {
-    /// How many cowns it declares.
+    /// Returns how many cowns it declares.
     pub fn members(&self) -> usize
         ensures { result ≡ members self.now.size }
     {

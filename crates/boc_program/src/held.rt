@@ -11,7 +11,7 @@ use std::marker::Model;
 /// At most eight cowns, each below 256, a byte for each. Contracts see them as those of `Cowns`.
 #[derive(Drop, Debug)]
 pub struct HeldCowns {
-    /// The cowns stand first. What stands behind them is not looked at.
+    /// The cowns come first. What comes after them is not looked at.
     numbers: [HeldCown; MOST_HELD],
     /// How many cowns there are.
     count: u8,
@@ -29,7 +29,7 @@ impl Model for HeldCowns {
     ghost invariant = { λ a. a.count ≤ MOST_HELD };
 }
 
-// Puts a cown behind others, unless it is the one that is left out.
+// Appends a cown to others, unless it is the one that is left out.
 fn put_unless(kept: &mut Cowns, number: HeldCown, cown: HeldCown)
     requires { length kept.old.items < MOST_HELD }
     ensures { kept.new.items ≡ kept.old.items ++ cond (not (number == cown)) (number ∷ []) [] }
@@ -40,7 +40,7 @@ fn put_unless(kept: &mut Cowns, number: HeldCown, cown: HeldCown)
 }
 
 impl HeldCowns {
-    /// No cowns.
+    /// Makes a list of no cowns.
     pub fn new() -> HeldCowns
         ensures { result.items ≡ [] }
     {
@@ -50,7 +50,7 @@ impl HeldCowns {
         }
     }
 
-    /// These cowns, in their order.
+    /// Keeps these cowns, in their order.
     pub fn of(cowns: &Cowns) -> HeldCowns
         requires { All (λ c. c < MOST_COWNS) cowns.now.items }
         ensures { result ≡ cowns.now }
@@ -65,7 +65,7 @@ impl HeldCowns {
         }
     }
 
-    /// These cowns, in their order, unless one of them has no byte.
+    /// Keeps these cowns, in their order, unless one of them has no byte.
     pub fn try_of(cowns: &Cowns) -> Option<HeldCowns>
         ensures { MatchOption result
             (All (λ c. c < MOST_COWNS) cowns.now.items → ⊥)
@@ -78,7 +78,7 @@ impl HeldCowns {
         }
     }
 
-    /// The same cowns once more.
+    /// Returns the same cowns once more.
     pub fn duplicate(&self) -> HeldCowns
         ensures { result ≡ self.now }
     {
@@ -88,7 +88,7 @@ impl HeldCowns {
         }
     }
 
-    /// These cowns but for one, in their order.
+    /// Returns these cowns except one, in their order.
     pub fn without(&self, cown: HeldCown) -> HeldCowns
         ensures { result ≡ freed cown self.now }
     {
@@ -99,7 +99,7 @@ impl HeldCowns {
         HeldCowns::of(&kept)
     }
 
-    /// The cowns, in their order.
+    /// Returns the cowns, in their order.
     pub fn as_slice(&self) -> &[HeldCown]
         ensures value { result.now ≡ self.now.items }
         ensures few { length result.now ≤ MOST_HELD }
@@ -107,7 +107,7 @@ impl HeldCowns {
         &self.numbers[..self.count as usize]
     }
 
-    /// The same cowns, as an event has them.
+    /// Returns the same cowns, as an event has them.
     pub fn widened(&self) -> Cowns
         ensures same { result ≡ self.now }
         ensures small { All (λ c. c < MOST_COWNS) result.items }

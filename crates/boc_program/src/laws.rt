@@ -10,7 +10,7 @@ ghost use Rattle.boc_program.specs.declared.short.Input.{Input};
 
 use crate::body::Body;
 
-/// The offsets of a body's wishes rise strictly, and end at its ticks at most, which are at most 1,000,000.
+/// Proves that the offsets of a body's wishes rise strictly, and end at its ticks at most, which are at most 1,000,000.
 pub fn offsets_rise(body: &Body)
     ensures { (args : List ℤ) (inputs : List Input) → RisesFrom 1 (meaning body.now args inputs).wishes (meaning body.now args inputs).ticks
         × (meaning body.now args inputs).ticks ≤ MOST_TICKS }
@@ -18,7 +18,7 @@ pub fn offsets_rise(body: &Body)
     let _ = body;
 }
 
-/// Where the calls of a body fit, its wishes fit.
+/// Proves that where the calls of a body fit, its wishes fit.
 pub fn wishes_fit(body: &Body)
     ensures { (sigs : List Signature) (n : _) (args : List ℤ) (inputs : List Input) → IsTrue (calls_fit sigs n body.now) → length inputs ≡ body.now.cown_params
         → AllBelow n (cowns_held inputs) → WishesFit sigs n (meaning body.now args inputs).wishes }
@@ -26,7 +26,7 @@ pub fn wishes_fit(body: &Body)
     let _ = body;
 }
 
-/// The cowns that the assignments of a body wrote are cowns that it holds, and rise strictly.
+/// Proves that the cowns that the assignments of a body wrote are cowns that it holds, and rise strictly.
 pub fn written_is_held(body: &Body)
     ensures held { (args : List ℤ) (inputs : List Input) → All (Contains (cowns_held inputs)) (meaning body.now args inputs).written }
     ensures rises { (args : List ℤ) (inputs : List Input) → IsStrictlyIncreasing (meaning body.now args inputs).written }

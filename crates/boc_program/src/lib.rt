@@ -1,4 +1,4 @@
-//! Programs: what a body says and means, how blocks lie in memory, and the parts of programs.
+//! Programs: what a body says and means, how blocks are stored in memory, and the parts of programs.
 //!
 //! The types keep the limits of the language, and that every name is resolved. `specs/` has the definitions.
 #![tactic(auto)]
@@ -7,6 +7,7 @@ pub mod body;
 mod calls;
 mod cells;
 mod check;
+pub mod count;
 pub mod cown;
 pub mod cowns;
 mod equality;

@@ -33,6 +33,12 @@ pub const MOST_ROWS: usize = 65_535;
 /// The most workers that run a program.
 pub const MOST_RUNNERS: usize = 16;
 
+/// The greatest depth of random priorities.
+pub const MOST_DEPTH: u32 = 16;
+
+/// The most draws.
+pub const MOST_RUNS: u32 = 1_000_000;
+
 /// The most workers of a greedy plan.
 pub const MOST_WORKERS: u32 = 64;
 

@@ -28,7 +28,7 @@ impl Program {
     ghost use Rattle.std.specs.Prelude.{MatchOption};
     ghost use Rattle.boc_program.specs.Parts.{MakesProgram};
 
-    /// A program of these parts, which fit together, main's body first. It takes no memory.
+    /// Returns a program of these parts, which fit together, main's body first. It takes no memory.
     pub fn new(cowns: CownList, bodies: BodyList) -> Program
         requires { MakesProgram cowns bodies }
         ensures cowns { result.cowns ≡ cowns }
@@ -37,7 +37,7 @@ impl Program {
         Program { cowns, bodies }
     }
 
-    /// A program of these parts, main's body first, or `None` where they break a limit, an array has no
+    /// Returns a program of these parts, main's body first, or `None` where they break a limit, an array has no
     /// member, main takes anything, or a `when` names main or does not fit the def that it names.
     pub fn checked(cowns: CownList, bodies: BodyList) -> Option<Program>
         ensures { MatchOption result (MakesProgram cowns bodies → ⊥) (λ p. (p.cowns ≡ cowns) × (p.bodies ≡ bodies)) }
@@ -53,7 +53,7 @@ impl Program {
         Some(Program::new(cowns, bodies))
     }
 
-    /// The body of a kind.
+    /// Returns the body of a kind.
     pub fn body(&self, kind: usize) -> &Body
         requires { kind < length self.now.bodies }
         ensures { slice_get self.now.bodies kind ≡ Some result.now }

@@ -6,7 +6,7 @@ use crate::body::Body;
 use crate::cown::Cown;
 use crate::program::Program;
 
-/// The bodies are the same.
+/// Returns whether the bodies are the same.
 pub(crate) fn same_body(a: &Body, b: &Body) -> bool
     ensures { IsTrue result ↔ (a.now ≡ b.now) }
 {
@@ -42,7 +42,7 @@ fn same_cowns(a: &[Cown], b: &[Cown]) -> bool
     }
 }
 
-/// The programs are the same.
+/// Returns whether the programs are the same.
 pub(crate) fn same_program(a: &Program, b: &Program) -> bool
     ensures { IsTrue result ↔ (a.now ≡ b.now) }
 {

@@ -1,4 +1,4 @@
-// A block with its cells beside it.
+// A block with its cells next to it.
 
 ghost use Rattle.std.specs.Prelude.{◌≡◌, ◌↔◌, IsTrue, IfOk};
 
@@ -7,7 +7,7 @@ use crate::cells::put_stmts;
 use std::alloc::{AllocError, Global};
 use std::marker::Model;
 
-/// A block, and beside it what it says as a flat list of cells, by which two are compared.
+/// A block, and next to it what it says as a flat list of cells, by which two are compared.
 #[derive(Drop, Debug)]
 pub struct Script {
     block: Block,
@@ -32,7 +32,7 @@ impl Model for Script {
 impl Script {
     ghost use Rattle.boc_program.specs.memory.View.{code_of};
 
-    /// This block, with its cells.
+    /// Returns this block, with its cells.
     pub(crate) fn new(alloc: Global, block: Block) -> Result<Script, AllocError>
         ensures { IfOk result (λ script. script ≡ block) }
     {
@@ -41,14 +41,14 @@ impl Script {
         Ok(Script { block, cells })
     }
 
-    /// The statements.
+    /// Returns the statements.
     pub fn as_slice(&self) -> &[Stmt]
         ensures { code_of result.now ≡ self.now }
     {
         self.block.as_slice()
     }
 
-    /// The blocks are the same.
+    /// Returns whether the blocks are the same.
     #[tactic(auto, using(crate::proofs::CellsLaw::same_code))]
     pub(crate) fn same(&self, other: &Script) -> bool
         ensures { IsTrue result ↔ (self.now ≡ other.now) }
@@ -57,7 +57,7 @@ impl Script {
     }
 }
 
-// The cells are the same. It looks at each of them, also behind one that differs: the loop has no early end, so
+// Returns whether the cells are the same. It looks at each of them, also after one that differs: the loop has no early end, so
 // that a machine can take several cells at once.
 fn same_cells(a: &[u64], b: &[u64]) -> bool
     ensures { IsTrue result ↔ (a.now ≡ b.now) }

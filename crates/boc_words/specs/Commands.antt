@@ -7,9 +7,7 @@ use Rattle.clap.specs.Words.{App, Rule, Shape, Text, new_rule}
 use Rattle.clap.specs.declared.builder.action.ArgAction.TheVariants as actions
 use Rattle.clap.specs.declared.builder.value_parser.ValueParser.{ValueParser}
 use Rattle.clap.specs.declared.builder.value_parser.ValueParser.TheVariants as parsers
-use Rattle.boc_program.specs.declared.limits.TheConstants.{MOST_COWNS, MOST_ROWS, MOST_RUNNERS, MOST_WORKERS}
-use Rattle.boc_draws.specs.declared.way.TheConstants.{MOST_DEPTH}
-use Rattle.boc_outcomes.specs.declared.asked.TheConstants.{MOST_RUNS}
+use Rattle.boc_program.specs.declared.limits.TheConstants.{MOST_COWNS, MOST_DEPTH, MOST_ROWS, MOST_RUNNERS, MOST_RUNS, MOST_WORKERS}
 use Rattle.boc_words.specs.declared.arguments.Numbers.{Numbers}
 use Rattle.boc_words.specs.declared.arguments.Numbers.TheVariants.{UpTo, Every}
 use Rattle.boc_words.specs.declared.commands.Kind.{Kind}

@@ -5,9 +5,9 @@ ghost use Rattle.clap.specs.Words.{rule_of};
 ghost use Rattle.boc_words.specs.Commands.{IsNumberOf, parser_of, rule_at};
 ghost use Rattle.boc_words.specs.Tables.{argument_of};
 
-use boc_draws::MOST_DEPTH;
-use boc_outcomes::MOST_RUNS;
-use boc_program::limits::{MOST_COWNS, MOST_ROWS, MOST_RUNNERS, MOST_WORKERS};
+use boc_program::limits::{
+    MOST_COWNS, MOST_DEPTH, MOST_ROWS, MOST_RUNNERS, MOST_RUNS, MOST_WORKERS,
+};
 use clap::builder::ValueParser;
 use clap::{Arg, ArgAction, value_parser};
 use std::alloc::Global;
@@ -277,7 +277,7 @@ const _: () = prove!(MOST_ROWS == 65_535);
 const _: () = prove!(MOST_RUNS == 1_000_000);
 
 impl Numbers {
-    /// Whether a number is one of these.
+    /// Returns whether a number is one of these.
     pub(crate) fn contains(self, number: u64) -> bool
         ensures { IsTrue result ↔ IsNumberOf self number }
     {
@@ -287,7 +287,7 @@ impl Numbers {
         }
     }
 
-    // The parser of these numbers.
+    // Returns the parser of these numbers.
     fn parser<'a>(self) -> ValueParser<'a>
         ensures { result ≡ parser_of self }
     {
@@ -299,7 +299,7 @@ impl Numbers {
 }
 
 impl Argument {
-    /// The argument as the parser takes it.
+    /// Returns the argument as the parser takes it.
     pub(crate) fn arg<'a>(&self, alloc: Global) -> Arg<'a>
         ensures rule { rule_of result ≡ rule_at (argument_of self.now) }
         ensures local { result.global ≡ false }

@@ -1,12 +1,9 @@
 // What words of a command line name.
 
-use crate::runners::Runners;
-use crate::runs::Runs;
 use crate::schedule::Schedule;
-use boc_draws::Depth;
 use boc_plans::edit::{Edit, Part};
 use boc_plans::sharing::Sharing;
-use boc_plans::workers::Workers;
+use boc_program::count::{Depth, Runners, Runs, Workers};
 use boc_program::short::CownNo;
 
 /// An edit that the words ask for.

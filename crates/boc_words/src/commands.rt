@@ -636,7 +636,7 @@ const OUTCOMES: Entry = Entry {
 };
 
 impl Kind {
-    // What the parser knows of it.
+    // Returns what the parser knows of it.
     fn entry(self) -> Entry
         ensures { listed_as result ≡ signature_of self }
     {
@@ -655,7 +655,7 @@ impl Kind {
         }
     }
 
-    // The command as the parser takes it.
+    // Returns the command as the parser takes it.
     fn command<'a>(self, alloc: Global) -> Result<clap::Command<'a>, AllocError>
         ensures { IfOk result (λ command. Told command (app_of_command (signature_of self))) }
     {
@@ -663,7 +663,7 @@ impl Kind {
     }
 }
 
-/// The command of this name.
+/// Returns the command of this name.
 pub(crate) fn kind_of(name: &str) -> Option<Kind>
     ensures none { IfNone result (IsNoneOf name.now commands_of_boc) }
     ensures some { IfSome result (λ kind. name.now ≡ (signature_of kind).0) }
@@ -676,7 +676,7 @@ pub(crate) fn kind_of(name: &str) -> Option<Kind>
     None
 }
 
-/// What the parser accepts.
+/// Returns what the parser accepts.
 pub(crate) fn parser<'a>(alloc: Global) -> Result<clap::Command<'a>, AllocError>
     ensures { IfOk result (λ parser. app_of parser ≡ command_line) }
 {
@@ -688,7 +688,7 @@ pub(crate) fn parser<'a>(alloc: Global) -> Result<clap::Command<'a>, AllocError>
     Ok(parser)
 }
 
-// The program, which wants one of its commands. Its texts call it `boc` whatever the name of its file is.
+// Returns the program, which wants one of its commands. Its texts call it `boc` whatever the name of its file is.
 fn without_commands<'a>(alloc: Global) -> Result<clap::Command<'a>, AllocError>
     ensures { IfOk result (λ parser. Told parser without_commands) }
 {
@@ -702,7 +702,7 @@ fn without_commands<'a>(alloc: Global) -> Result<clap::Command<'a>, AllocError>
 }
 
 impl Entry {
-    // The command as the parser takes it.
+    // Returns the command as the parser takes it.
     fn command<'a>(&self, alloc: Global) -> Result<clap::Command<'a>, AllocError>
         ensures { IfOk result (λ command. Told command (app_of_command (listed_as self.now))) }
     {

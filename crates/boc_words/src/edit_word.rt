@@ -9,7 +9,7 @@ use boc_plans::edit::{Change, Edit, Part};
 use boc_text::read_number;
 use std::alloc::{AllocError, Global};
 
-// Whether a word looks like an edit: it has an equals sign or an at sign.
+// Returns whether a word looks like an edit: it has an equals sign or an at sign.
 pub(crate) fn is_edit(word: &str) -> bool
     ensures { result ≡ is_edit word.now }
 {
@@ -18,7 +18,7 @@ pub(crate) fn is_edit(word: &str) -> bool
         .any(|byte| *byte == b'=' || *byte == b'@')
 }
 
-// The edit that a word is: `ROW=TICKS`, `ROW@OFFSET` or `ROW=K/D`, of plain decimals, K and D from 1 to 1,000 and the others up to
+// Returns the edit that a word is: `ROW=TICKS`, `ROW@OFFSET` or `ROW=K/D`, of plain decimals, K and D from 1 to 1,000 and the others up to
 // 4,294,967,295, or `DEF=K/D`, of a name that is not of digits alone. A name may have equals signs: the last one of the word parts it from the part. No other
 // word is an edit.
 pub(crate) fn edit_of(alloc: Global, word: &str) -> Result<Option<AskedEdit>, AllocError>
@@ -37,7 +37,7 @@ pub(crate) fn edit_of(alloc: Global, word: &str) -> Result<Option<AskedEdit>, Al
     cost_edit(alloc, word)
 }
 
-// The edit that a word `ROW=K/D` or `DEF=K/D` is.
+// Returns the edit that a word `ROW=K/D` or `DEF=K/D` is.
 fn cost_edit(alloc: Global, word: &str) -> Result<Option<AskedEdit>, AllocError>
     ensures none { IfOk result (λ edit. IfNone edit (IsCostWord word.now → ⊥)) }
     ensures word { IfOk result (λ edit. IfSome edit (λ e. word.now ≡ edit_word e)) }
@@ -57,7 +57,7 @@ fn cost_edit(alloc: Global, word: &str) -> Result<Option<AskedEdit>, AllocError>
     Ok(Some(AskedEdit::Def { name, part }))
 }
 
-// What stands before the last equals sign of a word, and the part behind it, where the word is no more than that.
+// Returns what is before the last equals sign of a word, and the part after it, where the word is no more than that.
 fn subject_and_part(word: &str) -> Option<(&str, Part)>
     ensures { MatchOption result
         ((subject : List ℕ) (part : Fraction) → IsPart part → word.now ≡ cost_word subject part → ⊥)
@@ -68,14 +68,14 @@ fn subject_and_part(word: &str) -> Option<(&str, Part)>
     Some((subject, Part::new(over, under)?))
 }
 
-// Whether a text is more than digits.
+// Returns whether a text is more than digits.
 fn is_name(text: &str) -> bool
     ensures { IsTrue result ↔ HasOther text.now }
 {
     text.as_bytes().iter().any(|byte| !byte.is_ascii_digit())
 }
 
-// The two plain decimals up to 4,294,967,295 round the sign, where the word is no more than that. The sign is no digit.
+// Returns the two plain decimals up to 4,294,967,295 round the sign, where the word is no more than that. The sign is no digit.
 fn numbers_around(word: &str, sign: char) -> Option<(u32, u32)>
     requires ascii { sign < 128 }
     requires no_digit { (sign < 48) ⊎ (57 < sign) }

@@ -27,13 +27,10 @@ use crate::asked::{
 use crate::commands::{Kind, kind_of, parser};
 use crate::edit_word::{edit_of, is_edit};
 use crate::fault::WordsFault;
-use crate::runners::Runners;
-use crate::runs::Runs;
 use crate::schedule::Schedule;
-use boc_draws::Depth;
 use boc_plans::sharing::Sharing;
 use boc_plans::sweep::Sweep;
-use boc_plans::workers::Workers;
+use boc_program::count::{Depth, Runners, Runs, Workers};
 use boc_program::limits::MOST_WORKERS;
 use boc_program::short::CownNo;
 use clap::ArgMatches;
@@ -48,7 +45,7 @@ pub struct CommandLine {
     pub input: Option<String>,
 }
 
-/// What a command is to do. A text behind a file is its path. Notes on behaviours that ended by a fault are left out where `quiet` is so.
+/// What a command must do. A text after a file is its path. Notes on behaviours that ended by a fault are left out where `quiet` is so.
 #[derive(Debug, Drop)]
 pub enum Command {
     /// The values after the serial run of a program, or after the run that a record is of.
@@ -78,7 +75,7 @@ pub enum Command {
         sharing: Sharing,
         quiet: bool,
     },
-    /// The report on the rows of a record without these cowns and after these edits, with these plans; or, where that is asked for, what
+    /// The report on the rows of a record without these cowns and after these edits, with these plans; or, where that is requested, what
     /// they change in short.
     WhatIf {
         cowns: Vec<AskedCown>,
@@ -88,13 +85,13 @@ pub enum Command {
         names: Option<NamesFrom>,
         short: bool,
     },
-    /// The ends of the greedy plans for 1 worker up to so many, for the rows of a record.
+    /// The ends of the greedy plans for 1 worker up to this many, for the rows of a record.
     Curve {
         most: Workers,
         sharing: Sharing,
     },
-    /// For each row, cown or spawn of a record, the span without what it costs; or the end of the greedy plan for so many
-    /// workers, where a number is given. Where so many best ones are asked for, these alone, with what each brings.
+    /// For each row, cown or spawn of a record, the span without what it costs; or the end of the greedy plan for the given number of workers,
+    /// where a number is given. Where this many best ones are asked for, these alone, with what each saves.
     Sweep {
         over: Sweep,
         sharing: Sharing,
@@ -110,7 +107,7 @@ pub enum Command {
         asked: AskedCowns,
         file: Option<RunFile>,
     },
-    /// The ends that runs of a program come to that are drawn, and how often.
+    /// The ends that drawn runs of a program reach, and how often.
     Outcomes(AskedDraws),
     /// The parser's own text, for standard output.
     Help(String),
@@ -118,10 +115,10 @@ pub enum Command {
     Version,
 }
 
-/// What the words of a command line ask for, the program's own name first.
+/// Returns what the words of a command line ask for, the program's own name first.
 ///
 /// Words that the parser refuses are a fault with its text, and so are more files to read the input from than one, options of `sweep` that exclude
-/// each other, and more than one file beside the input. Of words that should be edits and are none the fault names the first, where there is
+/// each other, and more than one file given with the input. Of words that should be edits and are none the fault names the first, where there is
 /// nothing else against the words.
 pub fn read_words(alloc: Global, words: &[String]) -> Result<CommandLine, WordsFault>
     ensures asked { IfOk result (IsAsked (map string_bytes words.now)) }
@@ -136,14 +133,14 @@ pub fn read_words(alloc: Global, words: &[String]) -> Result<CommandLine, WordsF
     }
 }
 
-/// The fault of words that are no text.
+/// Returns the fault of words that are no text.
 pub fn not_text(alloc: Global) -> WordsFault
     ensures { IsOfNoText result }
 {
     fault_of_words(alloc, ErrorKind::ValueValidation, "a word is no text")
 }
 
-// The fault of words, with a text of the program's own.
+// Returns the fault of words, with a text of the program's own.
 fn fault_of_words(alloc: Global, kind: ErrorKind, text: &str) -> WordsFault
     ensures { IsOfKind kind result }
 {
@@ -153,7 +150,7 @@ fn fault_of_words(alloc: Global, kind: ErrorKind, text: &str) -> WordsFault
     }
 }
 
-// An error of the words with a text of the program's own.
+// Returns an error of the words with a text of the program's own.
 fn error_of_words(alloc: Global, kind: ErrorKind, text: &str) -> Result<clap::Error, AllocError>
     ensures { IfOk result (λ error. kind_of error ≡ kind) }
 {
@@ -161,7 +158,7 @@ fn error_of_words(alloc: Global, kind: ErrorKind, text: &str) -> Result<clap::Er
     parser.error(kind, text)
 }
 
-// What the parser finds in the words.
+// Returns what the parser finds in the words.
 fn found<'a>(alloc: Global, words: &'a [String]) -> Result<ArgMatches<'a>, clap::Error>
     ensures taken { IfOk result (λ matches. AreTaken (map string_bytes words.now)) }
     ensures named { IfOk result (λ matches. subcommand_rows_of matches ≡ subcommand_of command_line (map string_bytes words.now)) }
@@ -171,7 +168,7 @@ fn found<'a>(alloc: Global, words: &'a [String]) -> Result<ArgMatches<'a>, clap:
     parser.try_get_matches_from_mut(words)
 }
 
-// The command that the parser has found, and its input. What the parser takes names one, with no numbers but those that its options
+// Returns the command that the parser has found, and its input. What the parser takes names one, with no numbers but those that its options
 // take: the faults of words here and below are for other matches.
 fn line_of(alloc: Global, matches: &ArgMatches) -> Result<CommandLine, WordsFault>
     ensures named { IfOk result (IsNamed (subcommand_rows_of matches.now)) }
@@ -191,7 +188,7 @@ fn line_of(alloc: Global, matches: &ArgMatches) -> Result<CommandLine, WordsFaul
     )?))
 }
 
-// What a command is asked for, by what was found for it.
+// Returns what a command has to do, by what was found for it.
 fn asked(alloc: Global, kind: Kind, matches: &ArgMatches) -> Result<Command, WordsFault>
     ensures asked { IfOk result (Asks kind (rows_of (found_of matches.now))) }
     ensures refused { IfErr result (IsUnread kind (rows_of (found_of matches.now))) }
@@ -259,14 +256,14 @@ fn asked(alloc: Global, kind: Kind, matches: &ArgMatches) -> Result<Command, Wor
     }
 }
 
-// The texts that were found for an argument, none where it was not given.
+// Returns the texts that were found for an argument, none where it was not given.
 fn texts_at<'m, 'a>(matches: &'m ArgMatches<'a>, id: &str) -> &'m [&'a str]
     ensures { map (λ text. text.now) result.now ≡ values_at (rows_of (found_of matches.now)) id.now }
 {
     matches.get_strs(id).unwrap_or_default()
 }
 
-// What the words have a sweep change. Beside `--spawns` any `--cowns` or `--p` is a fault.
+// Returns what the words have a sweep change. With `--spawns` any `--cowns` or `--p` is a fault.
 fn over_asked(alloc: Global, matches: &ArgMatches) -> Result<Sweep, WordsFault>
     ensures asked { IfOk result (IsOver (rows_of (found_of matches.now))) }
     ensures refused { IfErr result (IsOfSweep (rows_of (found_of matches.now))) }
@@ -293,14 +290,14 @@ fn over_asked(alloc: Global, matches: &ArgMatches) -> Result<Sweep, WordsFault>
     }
 }
 
-// The fault of options that exclude each other.
+// Returns the fault of options that exclude each other.
 fn at_odds(alloc: Global, text: &str) -> WordsFault
     ensures { IsOfKind ArgumentConflict result }
 {
     fault_of_words(alloc, ErrorKind::ArgumentConflict, text)
 }
 
-// The path that the words give for a file. Two of them are a fault.
+// Returns the path that the words give for a file. Two of them are a fault.
 fn file_asked(
     alloc: Global,
     matches: &ArgMatches,
@@ -316,7 +313,7 @@ fn file_asked(
     }
 }
 
-// The path of the file that the words have the input read from. Two of them are a fault.
+// Returns the path of the file that the words have the input read from. Two of them are a fault.
 fn input_asked(
     alloc: Global,
     kind: Kind,
@@ -334,7 +331,7 @@ fn input_asked(
     }
 }
 
-// The path that is given, if there is one. Two of them are a fault.
+// Returns the path that is given, if there is one. Two of them are a fault.
 fn one_input(alloc: Global, paths: &[&str]) -> Result<Option<String>, WordsFault>
     ensures asked { IfOk result (IsPathOf (map (λ text. text.now) paths.now)) }
     ensures refused { IfErr result (IsOfPaths (map (λ text. text.now) paths.now)) }
@@ -346,7 +343,7 @@ fn one_input(alloc: Global, paths: &[&str]) -> Result<Option<String>, WordsFault
     }
 }
 
-// Those of the words that look like edits, or those that don't.
+// Returns those of the words that look like edits, or those that don't.
 fn words_that<'w>(alloc: Global, words: &[&'w str], edits: bool) -> Result<Vec<&'w str>, AllocError>
     ensures { IfOk result (λ some. map (λ text. text.now) some.items
         ≡ filter (λ word. if edits then is_edit word else not (is_edit word)) (map (λ text. text.now) words.now)) }
@@ -361,7 +358,7 @@ fn words_that<'w>(alloc: Global, words: &[&'w str], edits: bool) -> Result<Vec<&
     Ok(some)
 }
 
-// The file beside a program or a record that the words name. Two of them are a fault.
+// Returns the file given with a program or a record that the words name. Two of them are a fault.
 fn run_file_asked(alloc: Global, matches: &ArgMatches) -> Result<Option<RunFile>, WordsFault>
     ensures asked { IfOk result (IsRunFile (rows_of (found_of matches.now))) }
     ensures refused { IfErr result (IsOfFiles (record_file ∷ names_file ∷ []) (rows_of (found_of matches.now))) }
@@ -378,7 +375,7 @@ fn run_file_asked(alloc: Global, matches: &ArgMatches) -> Result<Option<RunFile>
     }
 }
 
-// The file beside a record that the words name. Two of them are a fault.
+// Returns the file given with a record that the words name. Two of them are a fault.
 fn names_asked(alloc: Global, matches: &ArgMatches) -> Result<Option<NamesFrom>, WordsFault>
     ensures asked { IfOk result (AreNamesFrom (rows_of (found_of matches.now))) }
     ensures refused { IfErr result (IsOfFiles (program_file ∷ names_file ∷ []) (rows_of (found_of matches.now))) }
@@ -395,7 +392,7 @@ fn names_asked(alloc: Global, matches: &ArgMatches) -> Result<Option<NamesFrom>,
     }
 }
 
-// The cowns that the words leave out, in their order.
+// Returns the cowns that the words leave out, in their order.
 fn cowns_asked(alloc: Global, matches: &ArgMatches) -> Result<Vec<AskedCown>, AllocError>
     ensures { IfOk result (λ cowns. AreCowns (rows_of (found_of matches.now)) cowns.items) }
 {
@@ -408,7 +405,7 @@ fn cowns_asked(alloc: Global, matches: &ArgMatches) -> Result<Vec<AskedCown>, Al
     Ok(cowns)
 }
 
-// The cown that a text names: by its number, in decimal digits, where that has 32 bits.
+// Returns the cown that a text names: by its number, in decimal digits, where that has 32 bits.
 fn cown_of(alloc: Global, text: &str) -> Result<AskedCown, AllocError>
     ensures { IfOk result (IsCownText text.now) }
 {
@@ -418,7 +415,7 @@ fn cown_of(alloc: Global, text: &str) -> Result<AskedCown, AllocError>
     }
 }
 
-// The edits that the words of `whatif` name. The first word that looks like one and is none is a fault.
+// Returns the edits that the words of `whatif` name. The first word that looks like one and is none is a fault.
 fn edits_asked(alloc: Global, matches: &ArgMatches) -> Result<Vec<AskedEdit>, WordsFault>
     ensures asked { IfOk result (λ edits. AreEdits (rows_of (found_of matches.now)) edits.items) }
     ensures refused { IfErr result (IsOfEditWords (rows_of (found_of matches.now))) }
@@ -427,7 +424,7 @@ fn edits_asked(alloc: Global, matches: &ArgMatches) -> Result<Vec<AskedEdit>, Wo
     edits_in(alloc, &words)
 }
 
-// The edits that these words are. The first one that is none is a fault.
+// Returns the edits that these words are. The first one that is none is a fault.
 fn edits_in(alloc: Global, words: &[&str]) -> Result<Vec<AskedEdit>, WordsFault>
     ensures asked { IfOk result (λ edits. AreEditsOf (map (λ text. text.now) words.now) edits.items) }
     ensures refused { IfErr result (IsOfWords (map (λ text. text.now) words.now)) }
@@ -444,18 +441,18 @@ fn edits_in(alloc: Global, words: &[&str]) -> Result<Vec<AskedEdit>, WordsFault>
     Ok(edits)
 }
 
-// The threads that the words ask for, one where they have no `--workers`.
+// Returns the threads that the words ask for, one where they have no `--workers`.
 fn runners_asked(alloc: Global, matches: &ArgMatches) -> Result<Runners, WordsFault>
     ensures asked { IfOk result (λ runners. AreRunners (rows_of (found_of matches.now)) runners) }
     ensures refused { IfErr result (IsOfNumber runners_option (rows_of (found_of matches.now))) }
 {
     match number_asked(alloc, matches, &RUNNERS)? {
         Some(number) => Ok(Runners::new(number as u32).unwrap()),
-        None => Ok(Runners::one()),
+        None => Ok(Runners::new(1).unwrap()),
     }
 }
 
-// How the words have a program run: by threads, or as a seed draws. A depth without a seed is a fault.
+// Returns how the words have a program run: by threads, or as a seed draws. A depth without a seed is a fault.
 fn schedule_asked(alloc: Global, matches: &ArgMatches) -> Result<Schedule, WordsFault>
     ensures asked { IfOk result (IsSchedule (rows_of (found_of matches.now))) }
     ensures refused { IfErr result (IsOfSchedule (rows_of (found_of matches.now))) }
@@ -476,7 +473,7 @@ fn schedule_asked(alloc: Global, matches: &ArgMatches) -> Result<Schedule, Words
     }
 }
 
-// The depth that the words ask for, none where they have no `--depth`.
+// Returns the depth that the words ask for, none where they have no `--depth`.
 fn depth_asked(alloc: Global, matches: &ArgMatches) -> Result<Option<Depth>, WordsFault>
     ensures asked { IfOk result (GivesNumber depth_option (rows_of (found_of matches.now))) }
     ensures refused { IfErr result (IsOfNumber depth_option (rows_of (found_of matches.now))) }
@@ -493,7 +490,7 @@ const USUAL_RUNS: u64 = 1_000;
 // How many workers runs are drawn for where the words have no `--workers`.
 const USUAL_WORKERS: u64 = 4;
 
-// The runs that the words have drawn.
+// Returns the runs that the words have drawn.
 fn draws_asked(alloc: Global, matches: &ArgMatches) -> Result<AskedDraws, WordsFault>
     ensures asked { IfOk result (AreDraws (rows_of (found_of matches.now))) }
     ensures refused { IfErr result (IsOfDraws (rows_of (found_of matches.now))) }
@@ -509,7 +506,7 @@ fn draws_asked(alloc: Global, matches: &ArgMatches) -> Result<AskedDraws, WordsF
     })
 }
 
-// The number that the words give for an option, and this one where they don't have the option.
+// Returns the number that the words give for an option, and this one where they don't have the option.
 fn number_or(
     alloc: Global,
     matches: &ArgMatches,
@@ -527,7 +524,7 @@ fn number_or(
     }
 }
 
-// The workers that the words ask for, none where they have no `--p`.
+// Returns the workers that the words ask for, none where they have no `--p`.
 fn workers_asked(alloc: Global, matches: &ArgMatches) -> Result<Option<Workers>, WordsFault>
     ensures asked { IfOk result (AreWorkers (rows_of (found_of matches.now))) }
     ensures refused { IfErr result (IsOfNumber workers_option (rows_of (found_of matches.now))) }
@@ -538,7 +535,7 @@ fn workers_asked(alloc: Global, matches: &ArgMatches) -> Result<Option<Workers>,
     }
 }
 
-// The plans that the words ask for in a report.
+// Returns the plans that the words ask for in a report.
 fn plans_asked(alloc: Global, matches: &ArgMatches) -> Result<AskedPlans, WordsFault>
     ensures asked { IfOk result (ArePlans (rows_of (found_of matches.now))) }
     ensures refused { IfErr result (IsOfNumber workers_option (rows_of (found_of matches.now))) }
@@ -560,7 +557,7 @@ fn most_asked(alloc: Global, matches: &ArgMatches) -> Result<Workers, WordsFault
     }
 }
 
-// How many lines the words ask for at the most, where they have this option, whose numbers have 32 bits.
+// Returns how many lines the words ask for at most, where they have this option, whose numbers have 32 bits.
 fn small_number_asked(
     alloc: Global,
     matches: &ArgMatches,
@@ -576,7 +573,7 @@ fn small_number_asked(
     }
 }
 
-// The number that the words give for an option, none where they don't have the option.
+// Returns the number that the words give for an option, none where they don't have the option.
 fn number_asked(
     alloc: Global,
     matches: &ArgMatches,
@@ -600,7 +597,7 @@ fn number_asked(
     }
 }
 
-// How the words have plans share cowns: with `--shared-reads` what was only read is shared.
+// Returns how the words have plans share cowns: with `--shared-reads` what was only read is shared.
 fn sharing_asked(matches: &ArgMatches) -> Sharing
     ensures { AreShared (rows_of (found_of matches.now)) result }
 {
@@ -621,7 +618,7 @@ fn is_set(texts: &[&str]) -> bool
     *text == "true"
 }
 
-// The one of these numbers that one text is, in decimal digits.
+// Returns the one of these numbers that one text is, in decimal digits.
 fn number_of(texts: &[&str], numbers: Numbers) -> Option<u64>
     ensures none { IfNone result
         ((number : ℕ) → IsNumberOf numbers number → IsGiven (map (λ text. text.now) texts.now) number → ⊥) }
@@ -635,7 +632,7 @@ fn number_of(texts: &[&str], numbers: Numbers) -> Option<u64>
     numbers.contains(number).then_some(number)
 }
 
-// What becomes of words that have no matches: a call for help or for the version is answered.
+// Returns what becomes of words that have no matches: a call for help or for the version is answered.
 fn refused(alloc: Global, error: clap::Error) -> Result<Command, WordsFault>
     ensures told { IfOk result (IsTextOfKind (kind_of error)) }
     ensures refused { IfErr result (IsOfError error) }

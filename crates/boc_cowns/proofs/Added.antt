@@ -6,7 +6,7 @@ use Rattle.std.specs.List.Sorted.{IsStrictlyIncreasing}
 use Rattle.std.proofs.lemmas.Bool.{cases_eq}
 use Rattle.std.proofs.lemmas.List.{get_or_default, get_or-set_same, get_or-set_other}
 use Rattle.std.proofs.lemmas.List.Kept.{AllPairs-from_increasing}
-use Rattle.boc_why.proofs.Found.{among_tells}
+use Rattle.boc_order.proofs.Found.{among_tells}
 
 -- the ticks are added for the first i cowns
 pub record SomeAdded (cowns : List ℕ) (ticks i : ℕ) (old new : List ℕ) : Type 0 where

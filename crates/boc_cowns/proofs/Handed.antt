@@ -1,13 +1,13 @@
 -- The cowns that a row hands on.
-use Rattle.std.proofs.Common.{◌≡◌, ℕ, ◌⊎◌, inl, inr, Bool, true, false, true≢false, ◌&&◌, ◌||◌, List, ⊎_elim, refl, sym, ◌∙◌, arith}
+use Rattle.std.proofs.Common.{◌≡◌, ℕ, ◌⊎◌, inl, inr, Bool, true, false, true≢false, ◌&&◌, ◌||◌, List, ⊎_elim, refl, sym, ◌∙◌}
 use Rattle.std.specs.Prelude.{◌↔◌, nat_eq}
 use Rattle.std.specs.List.{Contains, list_any}
 use Rattle.boc_runs.specs.declared.rows.Row.{Row}
 use Rattle.boc_runs.specs.Rows.{cowns_of, written_of}
 use Rattle.boc_plans.specs.Plans.{ConflictOn}
-use Rattle.boc_why.specs.Least.{wrote_cown}
-use Rattle.boc_why.specs.Shares.{AreHanded}
-use Rattle.boc_why.proofs.Found.{among_tells, found, finds}
+use Rattle.boc_order.specs.Least.{wrote_cown}
+use Rattle.boc_order.specs.Handed.{AreHanded}
+use Rattle.boc_order.proofs.Found.{among_tells, found, finds}
 use Rattle.boc_cowns.specs.Hot.{hands_cown, has_cown}
 
 both : (x y : Bool) → (x && y) ≡ true → (x ≡ true) × (y ≡ true)

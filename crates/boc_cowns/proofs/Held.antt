@@ -1,5 +1,5 @@
 -- For how long cowns are held by one row alone, and until when they are busy: no longer than the span, and no later than the end of any order.
-use Rattle.std.proofs.Common.{◌≡◌, inl, inr, ℕ, ◌<◌, ◌≤◌, List, get_or, ⊎_elim, arith}
+use Rattle.std.proofs.Common.{inl, inr, ℕ, ◌<◌, ◌≤◌, List, get_or, ⊎_elim, arith}
 use Rattle.std.specs.Prelude.{All}
 use Rattle.std.specs.List.{Contains}
 use Rattle.std.proofs.lemmas.Bool.{cases_lt}
@@ -10,9 +10,9 @@ use Rattle.boc_plans.specs.Plans.{ConflictOn, IsEnd, Keeps}
 use Rattle.boc_plans.specs.Seen.{seen}
 use Rattle.boc_plans.specs.declared.sharing.Sharing.{Sharing}
 use Rattle.boc_plans.proofs.Seeing.{rows_seen}
-use Rattle.boc_why.specs.Least.{KeepsApart, KeepsSpawns}
-use Rattle.boc_why.proofs.LeastBusy.{busy_from}
-use Rattle.boc_why.proofs.LeastLoads.{load_ends}
+use Rattle.boc_order.specs.Least.{KeepsApart, KeepsSpawns}
+use Rattle.boc_order.proofs.LeastBusy.{busy_from}
+use Rattle.boc_order.proofs.LeastLoads.{load_ends}
 use Rattle.boc_cowns.specs.declared.hot.HotCown.{HotCown}
 use Rattle.boc_cowns.specs.declared.hot.HotCowns.{HotCowns}
 use Rattle.boc_cowns.specs.Hot.{IsHotCowns, busy_until}

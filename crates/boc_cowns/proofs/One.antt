@@ -16,11 +16,11 @@ use Rattle.boc_plans.specs.Seen.{seen}
 use Rattle.boc_plans.proofs.Seeing.{rows_seen}
 use Rattle.boc_order.specs.Placed.{IsTight}
 use Rattle.boc_order.proofs.Alone.{one_chain, one_end, one_plan, one_span}
-use Rattle.boc_why.specs.Least.{IsHeldFrom, load_of, without_cowns, wrote_cown}
-use Rattle.boc_why.proofs.FirstStarts.{one_first}
-use Rattle.boc_why.proofs.OneLeast.{one_least}
-use Rattle.boc_why.proofs.LinkLists.{contains_from_place, place_from_contains}
-use Rattle.boc_why.proofs.ShareLaws.{ranked_from_places, same_ranked}
+use Rattle.boc_order.specs.Least.{IsHeldFrom, load_of, without_cowns, wrote_cown}
+use Rattle.boc_order.proofs.FirstStarts.{one_first}
+use Rattle.boc_order.proofs.OneLeast.{one_least}
+use Rattle.boc_order.proofs.Places.{contains_from_place, place_from_contains}
+use Rattle.boc_order.proofs.Ranked.{ranked_from_places, same_ranked}
 use Rattle.boc_cowns.specs.declared.hot.HotCown.{HotCown}
 use Rattle.boc_cowns.specs.declared.hot.HotCowns.{HotCowns}
 use Rattle.boc_cowns.specs.Hot.{AreAwaited, AreSorted, IsHotCown, IsHotCowns, IsHotter, chain_through, hands_cown, rows_that_wrote, rows_with}

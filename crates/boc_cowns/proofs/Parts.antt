@@ -19,8 +19,8 @@ use Rattle.boc_order.specs.Standing.{IsPlanOf}
 use Rattle.boc_order.proofs.Alone.{one_plan}
 use Rattle.boc_order.proofs.Chaining.{placed_earliest}
 use Rattle.boc_cowns.specs.declared.columns.Columns.{Columns}
-use Rattle.boc_why.specs.Least.{AreLoads, IsBusiestOf, IsSpawnPlan}
-use Rattle.boc_why.proofs.LeastLoads.{all_low}
+use Rattle.boc_order.specs.Least.{AreLoads, IsBusiestOf, IsSpawnPlan}
+use Rattle.boc_order.proofs.LeastLoads.{all_low}
 use Rattle.boc_cowns.specs.declared.hot.HotCown.{HotCown}
 use Rattle.boc_cowns.specs.declared.hot.HotCowns.{HotCowns}
 use Rattle.boc_cowns.specs.Hot.{AreSorted, IsHotCowns}

@@ -8,7 +8,7 @@ use Rattle.boc_plans.specs.declared.sharing.Sharing.{Sharing}
 use Rattle.boc_plans.specs.Seen.{seen}
 use Rattle.boc_order.specs.declared.plan.Earliest.{Earliest}
 use Rattle.boc_order.specs.Standing.{IsPlanOf}
-use Rattle.boc_why.specs.Least.{IsHeldFrom}
+use Rattle.boc_order.specs.Least.{IsHeldFrom}
 use Rattle.boc_cowns.specs.declared.hot.HotCown.{HotCown}
 use Rattle.boc_cowns.specs.declared.columns.Columns.{Columns}
 use Rattle.boc_cowns.specs.Hot.{AreAwaited, IsHotCown}

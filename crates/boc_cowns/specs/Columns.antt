@@ -4,7 +4,7 @@ use Rattle.boc_program.specs.declared.limits.TheConstants.{MOST_COWNS, MOST_ROWS
 use Rattle.boc_runs.specs.declared.rows.Row.{Row}
 use Rattle.boc_plans.specs.declared.chain.ChainStep.{ChainStep}
 use Rattle.boc_plans.specs.Edits.{IsCownSweep}
-use Rattle.boc_why.specs.Least.{AreFirstStarts, AreLoads, wrote_cown}
+use Rattle.boc_order.specs.Least.{AreFirstStarts, AreLoads, wrote_cown}
 use Rattle.boc_cowns.specs.declared.hot.HotCown.{HotCown}
 use Rattle.boc_cowns.specs.declared.columns.Columns.{Columns}
 use Rattle.boc_cowns.specs.Hot.{has_cown, one, step_hands, sum_where, wait_of, waits_over, weight_at}

@@ -16,7 +16,7 @@ use Rattle.boc_plans.specs.Plans.{start_of, IsEarliest, IsEnd}
 use Rattle.boc_plans.specs.Chains.{IsPicked}
 use Rattle.boc_plans.specs.Greedy.{IsSpan}
 use Rattle.boc_order.specs.Placed.{IsTight}
-use Rattle.boc_why.specs.Least.{IsHeldFrom, IsLeast, load_of, start_or_0, wrote_cown}
+use Rattle.boc_order.specs.Least.{IsHeldFrom, IsLeast, load_of, start_or_0, wrote_cown}
 use Rattle.boc_cowns.specs.declared.hot.HotCown.{HotCown}
 use Rattle.boc_cowns.specs.declared.hot.HotCowns.{HotCowns}
 

@@ -22,7 +22,7 @@ pub(crate) struct Columns {
     pub without: Vec<u64>,
 }
 
-/// Each of so many cowns, in the order of their numbers. `AllocError` says that memory was refused.
+/// Returns each of the given number of cowns, in the order of their numbers. `AllocError` says that memory was refused.
 pub(crate) fn listed(
     alloc: Global,
     columns: &Columns,
@@ -56,8 +56,8 @@ pub(crate) fn listed(
     Ok(list)
 }
 
-/// Each of so many cowns, those that are held longest first, and of those that are held as long the least number first. `AllocError` says that memory
-/// was refused.
+/// Returns each of the given number of cowns, those that are held longest first, and of those that are held as long the lowest number first. `AllocError` says
+/// that memory was refused.
 pub(crate) fn sorted(
     alloc: Global,
     columns: &Columns,

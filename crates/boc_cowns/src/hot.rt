@@ -13,13 +13,14 @@ ghost use Rattle.boc_cowns.specs.Columns.{HasColumns};
 
 use crate::columns::{Columns, sorted};
 use crate::totals::{chain_ticks, row_counts, waits_of, writer_counts};
-use boc_order::{Earliest, waits_and_plan};
+use boc_order::{
+    Earliest, Least, SpawnPlan, busiest_of, first_starts, loads_of, spawn_plan, waits_and_plan,
+};
 use boc_plans::chain::ChainStep;
 use boc_plans::sharing::{SeenRows, Sharing};
 use boc_program::short::HeldCown;
 use boc_runs::rows::Rows;
 use boc_sweep::cown_sweep;
-use boc_why::{Least, SpawnPlan, busiest_of, first_starts, loads_of, spawn_plan};
 use std::alloc::{AllocError, Global};
 use std::thread::Threads;
 
@@ -35,7 +36,7 @@ pub struct HotCown {
     /// How long it is held by one row alone: the ticks of the rows that wrote it. Where cowns are exclusive, these are all rows that have it; where
     /// reads are shared, readers hold it together, and don't count.
     pub held: u64,
-    /// A tick before which no row that wrote it starts, in whatever order: the least start of one, where only the spawns order the rows. None where no
+    /// A tick before which no row that wrote it starts, in whatever order: the earliest start of one, where only the spawns order the rows. None where no
     /// row wrote it.
     pub from: Option<u64>,
     /// How long rows wait for it: from the spawn of each to its start, where the row whose end it waits for hands it the cown. A wait for several
@@ -43,7 +44,7 @@ pub struct HotCown {
     pub waited: u64,
     /// The ticks of the chain's rows that hand it to the next row of the chain.
     pub chain: u64,
-    /// The span that the rows would have if the cown ordered nobody.
+    /// The span that the rows would have if the cown imposed no order.
     pub without: u64,
 }
 
@@ -56,12 +57,12 @@ pub struct HotCowns {
     pub least: Least,
     /// The span that they would have if reads were shared.
     pub shared: u64,
-    /// The cowns, those that are held longest first, and of those that are held as long the least number first.
+    /// The cowns, those that are held longest first, and of those that are held as long the lowest number first.
     pub cowns: Vec<HotCown>,
 }
 
-// The columns of so many cowns, for rows in their earliest plan and with their chain, and in the plan in which only spawns order them. `AllocError` says
-// that memory was refused.
+// Returns the columns of the given number of cowns, for rows in their earliest plan and with their chain, and in the plan in which only spawns order them.
+// `AllocError` says that memory was refused.
 fn columns_of(
     rt: &(impl Threads + Sync),
     alloc: Global,
@@ -92,7 +93,7 @@ fn columns_of(
     })
 }
 
-// The span of the rows if reads were shared. `AllocError` says that memory was refused.
+// Returns the span of the rows if reads were shared. `AllocError` says that memory was refused.
 fn shared_span(alloc: Global, rows: &Rows) -> Result<u64, AllocError>
     ensures { IfOk result (IsSpan (seen SharedReads rows.now)) }
 {
@@ -101,9 +102,9 @@ fn shared_span(alloc: Global, rows: &Rows) -> Result<u64, AllocError>
     Ok(plan.span())
 }
 
-/// Which cowns hold some rows back: for each of so many cowns, those that are held longest first, how many rows have it and how many wrote it, for how
-/// long it is held by one row alone and waited for, how much of the chain hands it on, and the span that would be left if it ordered nobody; and the
-/// span of the rows, as they are, and where reads are shared, and a lower bound for their end in any order. `AllocError` says that memory was
+/// Returns which cowns hold some rows back: for each of the given number of cowns, those that are held longest first, how many rows have it and how many wrote
+/// it, for how long it is held by one row alone and waited for, how much of the chain hands it on, and the span that would be left if it imposed no order; and
+/// the span of the rows, as they are, and where reads are shared, and a lower bound for their end in any order. `AllocError` says that memory was
 /// refused.
 ///
 /// It takes time that grows with the number of rows and their cowns, once for each cown, and memory that grows with the number of rows. Threads share

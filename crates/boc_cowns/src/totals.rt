@@ -7,18 +7,17 @@ ghost use Rattle.boc_program.specs.declared.limits.TheConstants.{MOST_COWNS, MOS
 ghost use Rattle.boc_runs.specs.Rows.{IsRows, cowns_of, written_of};
 ghost use Rattle.boc_plans.specs.Chains.{IsChain};
 ghost use Rattle.boc_order.specs.Standing.{IsPlanOf};
-ghost use Rattle.boc_why.specs.Least.{wrote_cown};
+ghost use Rattle.boc_order.specs.Least.{wrote_cown};
 ghost use Rattle.boc_cowns.specs.Hot.{has_cown, one, step_hands, wait_of, waits_over, weight_at};
 ghost use Rattle.boc_cowns.specs.Columns.{AreSums};
 
-use boc_order::{Earliest, spawned_at};
+use boc_order::{Earliest, handed, spawned_at};
 use boc_plans::chain::{ChainStep, Via};
 use boc_plans::sharing::SeenRows;
 use boc_program::held::HeldCowns;
 use boc_program::limits::MOST_COWNS;
 use boc_program::short::HeldCown;
 use boc_runs::rows::Row;
-use boc_why::handed;
 use std::alloc::{AllocError, Global};
 
 // Adds ticks to the totals of some cowns.
@@ -35,7 +34,7 @@ fn add(totals: &mut [u64], cowns: &[HeldCown], ticks: u64)
     }
 }
 
-// The cowns of a row.
+// Returns the cowns of a row.
 fn cowns_at(rows: &[Row], row: usize) -> &[HeldCown]
     requires { row < length rows.now }
     ensures { result.now ≡ cowns_of rows.now row }
@@ -43,7 +42,7 @@ fn cowns_at(rows: &[Row], row: usize) -> &[HeldCown]
     rows[row].cowns.as_slice()
 }
 
-// Those of its cowns that a row wrote.
+// Returns those of its cowns that a row wrote.
 fn written_at(rows: &[Row], row: usize) -> &[HeldCown]
     requires { row < length rows.now }
     ensures { result.now ≡ written_of rows.now row }
@@ -61,7 +60,7 @@ fn count_row(rows: &[Row], row: usize, totals: &mut [u64])
     add(totals, cowns_at(rows, row), 1);
 }
 
-/// For each cown how many rows have it. `AllocError` says that memory was refused.
+/// Returns for each cown how many rows have it. `AllocError` says that memory was refused.
 pub(crate) fn row_counts(alloc: Global, rows: &[Row]) -> Result<Vec<u64>, AllocError>
     requires { IsRows rows.now }
     ensures { IfOk result (λ totals. AreSums (has_cown rows.now) one (length rows.now) totals.items) }
@@ -83,7 +82,7 @@ fn count_writer(rows: &[Row], row: usize, totals: &mut [u64])
     add(totals, written_at(rows, row), 1);
 }
 
-/// For each cown how many rows wrote it. `AllocError` says that memory was refused.
+/// Returns for each cown how many rows wrote it. `AllocError` says that memory was refused.
 pub(crate) fn writer_counts(alloc: Global, rows: &[Row]) -> Result<Vec<u64>, AllocError>
     requires { IsRows rows.now }
     ensures { IfOk result (λ totals. AreSums (wrote_cown rows.now) one (length rows.now) totals.items) }
@@ -95,7 +94,7 @@ pub(crate) fn writer_counts(alloc: Global, rows: &[Row]) -> Result<Vec<u64>, All
     Ok(totals)
 }
 
-// The ticks from the spawn of a row to its start.
+// Returns the ticks from the spawn of a row to its start.
 fn wait_of(rows: &SeenRows, plan: &Earliest, row: usize) -> u64
     requires shape { IsRows rows.now }
     requires placed { IsPlanOf rows.now plan.now }
@@ -106,7 +105,7 @@ fn wait_of(rows: &SeenRows, plan: &Earliest, row: usize) -> u64
     plan.starts[row].saturating_sub(spawned_at(rows, row, &plan.starts))
 }
 
-// The cowns that are handed to a row by the row whose end it waits for, if any.
+// Returns the cowns that are handed to a row by the row whose end it waits for, if any.
 fn handed_to(rows: &SeenRows, plan: &Earliest, row: usize) -> HeldCowns
     requires shape { IsRows rows.now }
     requires placed { IsPlanOf rows.now plan.now }
@@ -135,7 +134,7 @@ fn add_wait(rows: &SeenRows, plan: &Earliest, row: usize, totals: &mut [u64])
     add(totals, cowns.as_slice(), wait);
 }
 
-/// For each cown the ticks for which rows wait for it. `AllocError` says that memory was refused.
+/// Returns for each cown the ticks for which rows wait for it. `AllocError` says that memory was refused.
 pub(crate) fn waits_of(
     alloc: Global,
     rows: &SeenRows,
@@ -153,7 +152,7 @@ pub(crate) fn waits_of(
     Ok(totals)
 }
 
-// What a step of a chain weighs.
+// Returns what a step of a chain weighs.
 fn weight_at(steps: &[ChainStep], place: usize) -> u64
     requires { place < length steps.now }
     ensures is { result ≡ weight_at steps.now place }
@@ -162,7 +161,7 @@ fn weight_at(steps: &[ChainStep], place: usize) -> u64
     u64::from(steps[place].weight)
 }
 
-// The cowns that a step of a chain hands to the step after it.
+// Returns the cowns that a step of a chain hands to the step after it.
 fn handed_by(rows: &SeenRows, steps: &[ChainStep], place: usize) -> HeldCowns
     requires shape { IsRows rows.now }
     requires chain { IsChain rows.now steps.now }
@@ -196,7 +195,7 @@ fn add_step(rows: &SeenRows, steps: &[ChainStep], place: usize, totals: &mut [u6
     add(totals, cowns.as_slice(), weight_at(steps, place));
 }
 
-/// For each cown the ticks of a chain that hand it on. `AllocError` says that memory was refused.
+/// Returns for each cown the ticks of a chain that hand it on. `AllocError` says that memory was refused.
 pub(crate) fn chain_ticks(
     alloc: Global,
     rows: &SeenRows,

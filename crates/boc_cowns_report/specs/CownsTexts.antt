@@ -10,7 +10,7 @@ use Rattle.boc_names.specs.declared.names.Names.{Names}
 use Rattle.boc_names.specs.Names.{Text, text_at, texts_of}
 use Rattle.boc_cowns.specs.declared.hot.HotCown.{HotCown}
 use Rattle.boc_cowns.specs.declared.hot.HotCowns.{HotCowns}
-use Rattle.boc_why.specs.Least.{start_or_0}
+use Rattle.boc_order.specs.Least.{start_or_0}
 use Rattle.boc_why_report.specs.WhyTexts.{least_text}
 use Rattle.boc_cowns.specs.Hot.{busy_until}
 

@@ -1,4 +1,4 @@
-//! What is told of the cowns that hold some rows back, in the names of their program.
+//! What is reported of the cowns that hold some rows back, in the names of their program.
 #![tactic(auto)]
 
 pub mod laws;

@@ -22,7 +22,7 @@ const COWNS_SIDES: [Side; 8] = [
     Side::Right,
 ];
 
-// A number, as a text.
+// Returns a number, as a text.
 fn number(alloc: Global, number: u64) -> Result<Vec<u8>, AllocError>
     ensures { IfOk result (λ text. text.items ≡ decimal number) }
 {
@@ -31,7 +31,7 @@ fn number(alloc: Global, number: u64) -> Result<Vec<u8>, AllocError>
     Ok(text)
 }
 
-// Puts ticks in percent of the span behind a text, rounded down.
+// Appends ticks in percent of the span to a text, rounded down.
 fn put_percent(text: &mut Vec<u8>, ticks: u64, span: u64) -> Result<(), AllocError>
     requires low { ticks < 2 ^ 56 }
     requires some { 0 < span }
@@ -97,7 +97,7 @@ fn put_cowns(
     Ok(())
 }
 
-/// The cowns that are told: all of them, or the first so many.
+/// Returns the cowns that are reported: all of them, or only the first ones.
 pub(crate) fn told_of(most: Option<u32>, cowns: &[HotCown]) -> &[HotCown]
     ensures { result.now ≡ told_of most cowns.now }
 {
@@ -107,7 +107,7 @@ pub(crate) fn told_of(most: Option<u32>, cowns: &[HotCown]) -> &[HotCown]
     }
 }
 
-// What stands above the columns.
+// Writes what is above the columns.
 fn put_head(table: &mut Table) -> Result<(), AllocError>
     requires { length table.old.sides ≡ 8 }
     ensures { OnOk result (table.new ≡ record table.old { lines = table.old.lines ++ cowns_head ∷ [] }) }
@@ -117,7 +117,7 @@ fn put_head(table: &mut Table) -> Result<(), AllocError>
     ])
 }
 
-// The table of some cowns.
+// Returns the table of some cowns.
 fn table_of(alloc: Global, names: &Names, span: u64, cowns: &[HotCown]) -> Result<Table, AllocError>
     requires low { All (λ c. c.held < 2 ^ 56) cowns.now }
     requires some { 0 < span }
@@ -130,7 +130,7 @@ fn table_of(alloc: Global, names: &Names, span: u64, cowns: &[HotCown]) -> Resul
     Ok(table)
 }
 
-/// Puts a line for each cown that is told behind a text.
+/// Appends a line for each cown that is reported to a text.
 pub(crate) fn put_cowns_table(
     alloc: Global,
     text: &mut Vec<u8>,

@@ -1,4 +1,4 @@
-// All that is told.
+// All that is reported.
 
 ghost use Rattle.std.specs.Prelude.{◌≡◌, ◌++◌, ◌<◌, ◌^◌, All, IfOk, OnOk};
 ghost use Rattle.boc_cowns_report.specs.CownsTexts.{IsCownsText, busiest_text, held_text, many_text, more_text, span_text};
@@ -12,7 +12,7 @@ use boc_text::put_number;
 use boc_why_report::put_least;
 use std::alloc::{AllocError, Global};
 
-// Puts how many more cowns there are behind a text, where there are several.
+// Appends to a text how many more cowns there are, where there are several.
 fn put_many(text: &mut Vec<u8>, count: usize) -> Result<(), AllocError>
     ensures { OnOk result (text.new.items ≡ text.old.items ++ many_text count) }
 {
@@ -22,7 +22,7 @@ fn put_many(text: &mut Vec<u8>, count: usize) -> Result<(), AllocError>
     Ok(())
 }
 
-// Puts how many more cowns there are behind a text.
+// Appends to a text how many more cowns there are.
 fn put_more(text: &mut Vec<u8>, count: usize) -> Result<(), AllocError>
     ensures { OnOk result (text.new.items ≡ text.old.items ++ more_text count) }
 {
@@ -33,7 +33,7 @@ fn put_more(text: &mut Vec<u8>, count: usize) -> Result<(), AllocError>
     }
 }
 
-// Puts how long a cown is held behind a text.
+// Appends to a text how long a cown is held.
 fn put_held(text: &mut Vec<u8>, own: HotCown) -> Result<(), AllocError>
     ensures { OnOk result (text.new.items ≡ text.old.items ++ held_text own) }
 {
@@ -42,7 +42,7 @@ fn put_held(text: &mut Vec<u8>, own: HotCown) -> Result<(), AllocError>
     Ok(())
 }
 
-// Puts how long the first cown is held behind a text, if any.
+// Appends to a text how long the first cown is held, if any.
 fn put_busiest(text: &mut Vec<u8>, cowns: &[HotCown]) -> Result<(), AllocError>
     ensures { OnOk result (text.new.items ≡ text.old.items ++ busiest_text cowns.now) }
 {
@@ -52,7 +52,7 @@ fn put_busiest(text: &mut Vec<u8>, cowns: &[HotCown]) -> Result<(), AllocError>
     }
 }
 
-// Puts the spans behind a text, and how long the first cown is held.
+// Appends the spans to a text, and how long the first cown is held.
 fn put_span(text: &mut Vec<u8>, hot: &HotCowns) -> Result<(), AllocError>
     ensures { OnOk result (text.new.items ≡ text.old.items ++ span_text hot.now) }
 {
@@ -64,9 +64,9 @@ fn put_span(text: &mut Vec<u8>, hot: &HotCowns) -> Result<(), AllocError>
     text.extend_from_slice(b"\n")
 }
 
-/// What is told of the cowns that hold some rows back: a line for each, or for the first so many; the span, and what of it the spawns alone need;
+/// Returns what is reported of the cowns that hold some rows back: a line for each, or for only the first ones; the span, and what of it the spawns alone need;
 /// whether these are what holds the rows back, or else a cown that is held for so long that it is the load, or else the order; a lower bound for any
-/// order; and, where reads aren't shared, what shared reads would bring. All times are ticks. `AllocError` says that memory was refused.
+/// order; and, where reads aren't shared, what shared reads would save. All times are ticks. `AllocError` says that memory was refused.
 pub fn cowns_text(
     alloc: Global,
     names: &Names,

@@ -2,7 +2,7 @@
 
 ghost use Rattle.std.specs.Prelude.{◌≡◌, ◌++◌, ◌<◌, ◌^◌, OnOk};
 ghost use Rattle.boc_names.specs.Names.{texts_of};
-ghost use Rattle.boc_why.specs.Least.{start_or_0};
+ghost use Rattle.boc_order.specs.Least.{start_or_0};
 ghost use Rattle.boc_cowns.specs.Hot.{busy_until};
 ghost use Rattle.boc_cowns_report.specs.CownsTexts.{by_cowns_text, by_last_text, is_late, is_most, last_busy, late_text, load_text, order_text, part_text};
 ghost use Rattle.boc_cowns_report.specs.CownsTexts.{readers_text, reads_text, shared_text, span_with_text, spawns_text, verdict_text};
@@ -13,17 +13,17 @@ use boc_plans::sharing::Sharing;
 use boc_text::put_number;
 use std::alloc::AllocError;
 
-// The spawns, or a cown, are what holds the rows back from so many of 100 ticks of the span on.
+// The spawns, or a cown, are what holds the rows back from this many of 100 ticks of the span on.
 const MOST: u128 = 75;
 
-// Whether these are that many ticks of the span.
+// Returns whether these are that many ticks of the span.
 fn is_most(ticks: u64, span: u64) -> bool
     ensures { result ≡ is_most ticks span }
 {
     u128::from(ticks) * 100 >= u128::from(span) * MOST
 }
 
-// Whether so many of 100 of the ticks by which the span is above what the spawns alone need are before a tick.
+// Returns whether this many of 100 of the ticks by which the span is above what the spawns alone need are before a tick.
 fn is_late(tick: u128, spawns: u64, span: u64) -> bool
     requires { tick < 2 ^ 65 }
     ensures { result ≡ is_late tick spawns span }
@@ -31,14 +31,14 @@ fn is_late(tick: u128, spawns: u64, span: u64) -> bool
     tick * 100 >= u128::from(span) * MOST + u128::from(spawns) * (100 - MOST)
 }
 
-// A tick before which no row that wrote a cown starts, in whatever order.
+// Returns a tick before which no row that wrote a cown starts, in whatever order.
 fn held_from(own: &HotCown) -> u64
     ensures { result ≡ start_or_0 own.now.from }
 {
     own.from.unwrap_or(0)
 }
 
-// A tick before which the rows that wrote a cown are not all done, in whatever order.
+// Returns a tick before which the rows that wrote a cown are not all done, in whatever order.
 fn busy_until(own: &HotCown) -> u128
     ensures is { result ≡ busy_until own.now }
     ensures low { result < 2 ^ 65 }
@@ -46,7 +46,7 @@ fn busy_until(own: &HotCown) -> u128
     u128::from(held_from(own)) + u128::from(own.held)
 }
 
-// Of a cown and some others the one that is busy until the latest tick, and of several the first.
+// Returns of a cown and some others the one that is busy until the latest tick, and of several the first.
 fn last_busy(own: HotCown, others: &[HotCown]) -> HotCown
     ensures { result ≡ last_busy own others.now }
 {
@@ -63,7 +63,7 @@ fn last_busy(own: HotCown, others: &[HotCown]) -> HotCown
     }
 }
 
-// Puts the spawns behind a text, which need so long alone that no cown is to blame.
+// Appends the spawns to a text, which need so long alone that no cown is to blame.
 fn put_spawns(text: &mut Vec<u8>, hot: &HotCowns) -> Result<(), AllocError>
     ensures { OnOk result (text.new.items ≡ text.old.items ++ spawns_text hot.now) }
 {
@@ -75,7 +75,7 @@ fn put_spawns(text: &mut Vec<u8>, hot: &HotCowns) -> Result<(), AllocError>
     Ok(())
 }
 
-// Puts for how much of the span a cown is held behind a text.
+// Appends to a text for how much of the span a cown is held.
 fn put_part(
     text: &mut Vec<u8>,
     names: &Names,
@@ -92,7 +92,7 @@ fn put_part(
     put_number(text, hot.span)
 }
 
-// Puts the cown that is held for long behind a text.
+// Appends the cown that is held for long to a text.
 fn put_load(
     text: &mut Vec<u8>,
     names: &Names,
@@ -106,7 +106,7 @@ fn put_load(
     Ok(())
 }
 
-// Puts the order behind a text, where no cown is held for longer than this one.
+// Appends the order to a text, where no cown is held for longer than this one.
 fn put_order(text: &mut Vec<u8>, hot: &HotCowns, own: HotCown) -> Result<(), AllocError>
     ensures { OnOk result (text.new.items ≡ text.old.items ++ order_text hot.now own) }
 {
@@ -118,7 +118,7 @@ fn put_order(text: &mut Vec<u8>, hot: &HotCowns, own: HotCown) -> Result<(), All
     Ok(())
 }
 
-// Puts the cown that keeps every order from an end before late behind a text, and the tick before which no row that wrote it starts.
+// Appends the cown that keeps every order from an end before late to a text, and the tick before which no row that wrote it starts.
 fn put_late(
     text: &mut Vec<u8>,
     names: &Names,
@@ -134,7 +134,7 @@ fn put_late(
     Ok(())
 }
 
-// Puts what of the cowns holds the rows back behind a text, where the one is held longest, and the other busy until the latest tick.
+// Appends to a text what of the cowns holds the rows back, where the one is held longest, and the other busy until the latest tick.
 fn put_by_last(
     text: &mut Vec<u8>,
     names: &Names,
@@ -151,7 +151,7 @@ fn put_by_last(
     }
 }
 
-// Puts what of the cowns holds the rows back behind a text, where this one is held longest, and these are the others.
+// Appends to a text what of the cowns holds the rows back, where this one is held longest, and these are the others.
 fn put_by_cowns(
     text: &mut Vec<u8>,
     names: &Names,
@@ -168,7 +168,7 @@ fn put_by_cowns(
     }
 }
 
-/// Puts what holds the rows back behind a text.
+/// Appends to a text what holds the rows back.
 pub(crate) fn put_verdict(
     text: &mut Vec<u8>,
     names: &Names,
@@ -188,7 +188,7 @@ pub(crate) fn put_verdict(
     }
 }
 
-// Puts how many of the rows of a cown only read it behind a text.
+// Appends to a text how many of the rows of a cown only read it.
 fn put_reads(text: &mut Vec<u8>, names: &Names, own: HotCown) -> Result<(), AllocError>
     requires { own.wrote < own.rows }
     ensures { OnOk result (text.new.items ≡ text.old.items ++ reads_text names.now own) }
@@ -202,7 +202,7 @@ fn put_reads(text: &mut Vec<u8>, names: &Names, own: HotCown) -> Result<(), Allo
     text.extend_from_slice(b" only read it")
 }
 
-// Puts how many of the rows of the first cown only read it behind a text, if any.
+// Appends to a text how many of the rows of the first cown only read it, if any.
 fn put_readers(text: &mut Vec<u8>, names: &Names, cowns: &[HotCown]) -> Result<(), AllocError>
     ensures { OnOk result (text.new.items ≡ text.old.items ++ readers_text names.now cowns.now) }
 {
@@ -212,7 +212,7 @@ fn put_readers(text: &mut Vec<u8>, names: &Names, cowns: &[HotCown]) -> Result<(
     }
 }
 
-// Puts the span with shared reads behind a text.
+// Appends the span with shared reads to a text.
 fn put_span_with(text: &mut Vec<u8>, names: &Names, hot: &HotCowns) -> Result<(), AllocError>
     ensures { OnOk result (text.new.items ≡ text.old.items ++ span_with_text names.now hot.now) }
 {
@@ -223,7 +223,7 @@ fn put_span_with(text: &mut Vec<u8>, names: &Names, hot: &HotCowns) -> Result<()
     Ok(())
 }
 
-/// Puts what shared reads would bring behind a text, where reads aren't shared and the span would be less.
+/// Appends to a text what shared reads would save, where reads aren't shared and the span would be less.
 pub(crate) fn put_shared(
     text: &mut Vec<u8>,
     names: &Names,

@@ -9,7 +9,7 @@ use Rattle.boc_runs.specs.declared.rows.Row.{Row}
 use Rattle.boc_runs.specs.Rows.{IsRows, parent_of, offset_of, ticks_of}
 use Rattle.boc_plans.specs.Plans.{start_of, end_of, work_of, IsEnd, Keeps, HasEnds}
 use Rattle.boc_plans.specs.Greedy.{worker_of, RunsAt, IsForWorkers, IsReady, IsFree, IsGreedy, IsSpan}
-use Rattle.boc_greedy.proofs.Totals.{total, total-most, total-least, total-plus, total-times, at-le-total, one_if, inside_cases, inside_yes}
+use Rattle.boc_order.proofs.Totals.{total, total-most, total-least, total-plus, total-times, at-le-total, one_if, inside_cases, inside_yes}
 use Rattle.boc_greedy.proofs.Busy.{runs, busy, busy-work, work-total, on, on_yes, busy_all, busy_few}
 
 -- twice p less one is p and p less one

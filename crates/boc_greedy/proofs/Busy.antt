@@ -11,8 +11,8 @@ use Rattle.boc_runs.specs.declared.rows.Row.{Row}
 use Rattle.boc_runs.specs.Rows.{ticks_of}
 use Rattle.boc_plans.specs.Plans.{start_of, end_of, work_of, IsEnd}
 use Rattle.boc_plans.specs.Greedy.{worker_of, RunsAt, IsForWorkers}
-use Rattle.boc_greedy.proofs.Totals.{total, total-le, total-same, total-most, total-least, total-swap, at-le-total, total-at_most_one, one_if, inside}
-use Rattle.boc_greedy.proofs.Totals.{inside_cases, inside_yes, total-inside}
+use Rattle.boc_order.proofs.Totals.{total, total-le, total-same, total-most, total-least, total-swap, at-le-total, total-at_most_one, one_if, inside}
+use Rattle.boc_order.proofs.Totals.{inside_cases, inside_yes, total-inside}
 
 -- 1 where row r is under way at tick t
 abbrev pub runs : List Row → List ℕ → ℕ → ℕ → ℕ

@@ -18,7 +18,7 @@ use Rattle.boc_plans.proofs.Numbered.{range_long, range_at}
 use Rattle.boc_order.proofs.Alone.{one_end, one_span, one_bound}
 use Rattle.boc_greedy.specs.declared.points.CurvePoint.{CurvePoint}
 use Rattle.boc_greedy.specs.Curves.{rounded_up, IsLowBound, IsCurvePoint, IsCurve}
-use Rattle.boc_greedy.proofs.Totals.{total-most}
+use Rattle.boc_order.proofs.Totals.{total-most}
 use Rattle.boc_greedy.proofs.Busy.{busy, busy-work, busy_few}
 use Rattle.boc_greedy.proofs.Bound.{end_within, greedy_keeps, greedy_for_workers, greedy_close}
 use Rattle.boc_greedy.proofs.Alone.{one_greedy_plan}

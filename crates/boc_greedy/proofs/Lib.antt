@@ -19,7 +19,6 @@ pub mod Following
 pub mod Finishing
 pub mod Queued
 pub mod Changing
-pub mod Totals
 pub mod Busy
 pub mod Bound
 pub mod FewMoments

@@ -12,11 +12,11 @@ use crate::frontier::Frontier;
 use crate::timed::TimedRows;
 use boc_order::{CownLinks, followers_without, links_by_cown};
 use boc_plans::sharing::SeenRows;
-use boc_plans::workers::Workers;
+use boc_program::count::Workers;
 use boc_program::short::HeldCown;
 use std::alloc::{AllocError, Global};
 
-/// What is known of rows, whichever of their cowns is left out: for whose sake each waits for which, and the spawns that it comes to.
+/// What is known of rows, whichever of their cowns is left out: for whose sake each waits for which, and the spawns that it makes.
 #[derive(Drop)]
 pub struct AnyCown {
     pub(crate) links: CownLinks,
@@ -24,7 +24,7 @@ pub struct AnyCown {
 }
 
 impl AnyCown {
-    /// What is known of these rows. `AllocError` says that memory was refused.
+    /// Returns what is known of these rows. `AllocError` says that memory was refused.
     pub fn of(alloc: Global, rows: &SeenRows) -> Result<AnyCown, AllocError>
         requires { IsRows rows.now }
         ensures { IfOk result (IsOfRows rows.now) }
@@ -36,7 +36,7 @@ impl AnyCown {
     }
 }
 
-/// The tick at which the greedy plan of the rows for p workers ends where no row has this cown. `AllocError` says that memory was refused.
+/// Returns the tick at which the greedy plan of the rows for p workers ends where no row has this cown. `AllocError` says that memory was refused.
 ///
 /// No row is copied: those that wait for the sake of the cown are left out of the followers, in one pass over these.
 pub fn greedy_end_without(

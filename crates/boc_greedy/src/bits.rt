@@ -3,7 +3,7 @@
 ghost use Rattle.std.specs.Prelude.{◌≡◌, ◌≢◌, ℕ, ◌<◌};
 ghost use Rattle.std.specs.Int.{bit_at};
 
-/// The word with this bit set.
+/// Returns the word with this bit set.
 pub fn with_bit(word: u64, bit: u32) -> u64
     requires { bit < 64 }
     ensures set { bit_at result bit ≡ 1 }
@@ -12,7 +12,7 @@ pub fn with_bit(word: u64, bit: u32) -> u64
     word | (1 << bit)
 }
 
-/// The word with this bit cleared.
+/// Returns the word with this bit cleared.
 pub fn without_bit(word: u64, bit: u32) -> u64
     requires { bit < 64 }
     ensures cleared { bit_at result bit ≡ 0 }

@@ -1,4 +1,4 @@
-// What rows that are under way come to, one after the other: the spawns of their children, and their ends.
+// What rows that are under way do, one after the other: the spawns of their children, and their ends.
 
 ghost use Rattle.std.specs.Prelude.{◌≡◌, ◌≤◌, length, slice_index, IfOk};
 ghost use Rattle.boc_runs.specs.Rows.{IsRows, Fits, edited, parent_of};
@@ -8,7 +8,7 @@ ghost use Rattle.boc_greedy.specs.Families.{IsFamilyOf, AreNext, children_of, ti
 use boc_plans::sharing::SeenRows;
 use std::alloc::{AllocError, Global};
 
-/// What a row comes to next: it spawns a child or, where the child isn't there, ends.
+/// What a row does next: it spawns a child or, where the child isn't there, ends.
 #[derive(Clone, Copy)]
 pub struct Change {
     /// The child, or the number of rows.
@@ -17,7 +17,7 @@ pub struct Change {
     pub after: u32,
 }
 
-/// For each row its first change, of those that are left, and the change that its parent comes to after spawning it. So a simulation
+/// For each row its first change, of those that are left, and the change that its parent makes after spawning it. So a simulation
 /// reads no row.
 #[derive(Drop)]
 pub struct Family {
@@ -27,7 +27,7 @@ pub struct Family {
     pub next: Vec<Change>,
 }
 
-/// The changes of the rows, with all of them left. `AllocError` says that memory was refused.
+/// Returns the changes of the rows, with all of them left. `AllocError` says that memory was refused.
 pub fn family_of(alloc: Global, rows: &SeenRows) -> Result<Family, AllocError>
     requires { IsRows rows.now }
     ensures { IfOk result (λ f. IsFamilyOf rows.now f) }
@@ -60,7 +60,7 @@ pub fn family_of(alloc: Global, rows: &SeenRows) -> Result<Family, AllocError>
     Ok(Family { first, next })
 }
 
-// The last child of the parent of a child, which may be that child itself.
+// Returns the last child of the parent of a child, which may be that child itself.
 fn last_child(next: &[Change], rows: &SeenRows, child: u32) -> u32
     requires next { AreNext rows.now (children_of next.now) (times_of next.now) }
     requires child { IsChild rows.now (parent_of rows.now child) child }
@@ -74,7 +74,7 @@ fn last_child(next: &[Change], rows: &SeenRows, child: u32) -> u32
     last
 }
 
-/// The changes of the rows' parents that follow the spawns of the rows, where one row takes other ticks: behind its last child it ends
+/// Returns the changes of the rows' parents that follow the spawns of the rows, where one row takes other ticks: after its last child it ends
 /// after these. `AllocError` says that memory was refused.
 pub fn next_changes(
     alloc: Global,

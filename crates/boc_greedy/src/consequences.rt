@@ -10,18 +10,18 @@ use boc_order::{Links, followers};
 use boc_plans::sharing::SeenRows;
 use std::alloc::{AllocError, Global};
 
-/// What follows from each row: the rows that wait for it, and the spawns that it comes to. It is the same for every number of
+/// What follows from each row: the rows that wait for it, and the spawns that it makes. It is the same for every number of
 /// workers, so it is found once for the plans of them all.
 #[derive(Drop)]
 pub struct Consequences {
     /// The rows that wait for each row.
     pub(crate) followers: Links,
-    /// What rows come to while they are under way.
+    /// What rows do while they are under way.
     pub(crate) family: Family,
 }
 
 impl Consequences {
-    /// What follows from each of the rows, which wait for these. `AllocError` says that memory was refused.
+    /// Returns what follows from each of the rows, which wait for these. `AllocError` says that memory was refused.
     pub fn of(alloc: Global, rows: &SeenRows, waits: &Links) -> Result<Consequences, AllocError>
         requires shape { IsRows rows.now }
         requires waits { AreWaits rows.now waits.now }

@@ -22,7 +22,7 @@ use crate::simulation::Simulation;
 use crate::timed::TimedRows;
 use boc_order::Links;
 use boc_plans::sharing::SeenRows;
-use boc_plans::workers::Workers;
+use boc_program::count::Workers;
 use boc_program::limits::MOST_WORKERS;
 use std::alloc::{AllocError, Global};
 use std::cmp::Reverse;
@@ -34,7 +34,7 @@ pub struct Course<'a> {
     simulation: Simulation<'a>,
 }
 
-/// The greedy plan of the rows for so many workers, as far as it is made before a tick, and at the first tick in any case.
+/// Returns the greedy plan of the rows for the given number of workers, as far as it is made before a tick, and at the first tick in any case.
 /// `AllocError` says that memory was refused.
 ///
 /// It goes as far as the last tick at which something changes before that one. `end_from` takes the less time the further
@@ -77,7 +77,7 @@ impl Course<'_> {
         self.simulation.go_to(&TimedRows::all(rows), tick)
     }
 
-    /// The same course once more, which goes on by itself. `AllocError` says that memory was refused.
+    /// Returns the same course once more, which goes on by itself. `AllocError` says that memory was refused.
     pub fn copied(&self, alloc: Global, rows: &SeenRows) -> Result<Course<'_>, AllocError>
         requires shape { IsRows rows.now }
         requires course { (p : ℕ) × IsCourse rows.now p self.now }
@@ -96,7 +96,7 @@ impl Course<'_> {
     }
 }
 
-// Whether a row that would take these ticks is not over yet.
+// Returns whether a row that would take these ticks is not over yet.
 fn is_ahead(simulation: &Simulation<'_>, row: u32, ticks: u32) -> bool
     requires { row < length simulation.now.starts.items }
     ensures { IsTrue result → simulation.now.tick < start_of simulation.now.starts.items row + ticks }
@@ -105,7 +105,7 @@ fn is_ahead(simulation: &Simulation<'_>, row: u32, ticks: u32) -> bool
     simulation.tick.saturating_sub(start) < u64::from(ticks)
 }
 
-// The first changes that are left, where a row takes other ticks: it ends after these, unless it spawns a child before.
+// Returns the first changes that are left, where a row takes other ticks: it ends after these, unless it spawns a child before.
 fn first_changes(
     alloc: Global,
     first: &[Change],
@@ -133,7 +133,7 @@ fn first_changes(
     Ok(list)
 }
 
-// The queue of the rows that are under way, by the tick of the first change that is left for each.
+// Returns the queue of the rows that are under way, by the tick of the first change that is left for each.
 fn queue_of(
     alloc: Global,
     states: &[RowState],
@@ -156,7 +156,7 @@ fn queue_of(
     Ok(queue)
 }
 
-// The same simulation once more, but for its changes and its queue, which are these.
+// Returns the same simulation once more, except its changes and its queue, which are these.
 fn with_changes<'a>(
     alloc: Global,
     simulation: &'a Simulation<'_>,
@@ -186,7 +186,7 @@ fn with_changes<'a>(
     })
 }
 
-// The same simulation once more, of rows of which one takes other ticks and is not over yet.
+// Returns the same simulation once more, of rows of which one takes other ticks and is not over yet.
 fn forked<'a>(
     alloc: Global,
     simulation: &'a Simulation<'_>,
@@ -217,10 +217,10 @@ fn forked<'a>(
     Ok(copy)
 }
 
-/// The tick at which the greedy plan ends if one row takes other ticks, no more than its own. `AllocError` says that memory was
+/// Returns the tick at which the greedy plan ends if one row takes other ticks, no more than its own. `AllocError` says that memory was
 /// refused.
 ///
-/// It goes on from a copy of the course, since nothing differs up to there. Where the row would be over by then, it begins anew.
+/// It goes on from a copy of the course, since nothing differs up to there. Where the row would be over by then, it begins again.
 pub fn end_from(
     alloc: Global,
     course: &Course<'_>,

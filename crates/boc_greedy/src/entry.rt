@@ -23,11 +23,11 @@ use crate::simulation::Simulation;
 use crate::timed::TimedRows;
 use boc_order::{Links, last_end, waits_and_plan};
 use boc_plans::sharing::{SeenRows, Sharing};
-use boc_plans::workers::Workers;
+use boc_program::count::Workers;
 use boc_runs::rows::Rows;
 use std::alloc::{AllocError, Global};
 
-// The tick at which each row ends in a plan.
+// Returns the tick at which each row ends in a plan.
 fn ends_of(alloc: Global, rows: &SeenRows, starts: &[u64]) -> Result<Vec<u64>, AllocError>
     requires whole { length starts.now ≡ length rows.now }
     requires low { (r : ℕ) → r < length rows.now → end_of rows.now starts.now r < 2 ^ 64 }
@@ -40,7 +40,7 @@ fn ends_of(alloc: Global, rows: &SeenRows, starts: &[u64]) -> Result<Vec<u64>, A
     Ok(ends)
 }
 
-/// The tick at which a plan ends.
+/// Returns the tick at which a plan ends.
 pub fn latest_end(rows: &TimedRows, starts: &[u64]) -> u64
     requires some { 0 < length rows.now }
     requires whole { length starts.now ≡ length rows.now }
@@ -55,7 +55,7 @@ pub fn latest_end(rows: &TimedRows, starts: &[u64]) -> u64
     latest
 }
 
-/// A simulation of p workers, from this frontier to its end.
+/// Returns a simulation of p workers, from this frontier to its end.
 pub fn finished<'a>(
     alloc: Global,
     rows: &TimedRows,
@@ -77,7 +77,7 @@ pub fn finished<'a>(
     Ok(simulation)
 }
 
-// A simulation of p workers, to its end.
+// Returns a simulation of p workers, to its end.
 fn simulated<'a>(
     alloc: Global,
     rows: &SeenRows,
@@ -99,7 +99,7 @@ fn simulated<'a>(
     finished(alloc, &timed, frontier, family, p)
 }
 
-/// The tick at which the greedy plan of the rows for p workers ends.
+/// Returns the tick at which the greedy plan of the rows for p workers ends.
 pub fn end_for(
     alloc: Global,
     rows: &SeenRows,
@@ -120,11 +120,11 @@ pub fn end_for(
     Ok(latest_end(&TimedRows::all(rows), &simulation.starts))
 }
 
-/// The tick at which the greedy plan of the rows for p workers ends, for a caller who knows which rows they wait for, and which
+/// Returns the tick at which the greedy plan of the rows for p workers ends, for a caller who knows which rows they wait for, and which
 /// rows wait for them. `AllocError` says that memory was refused.
 ///
 /// No row's ticks are in what the caller has to know, so one who asks again, with other ticks, finds it once. When
-/// rows spawn their children and end is found anew each time, in two passes over the rows.
+/// rows spawn their children and end is found again each time, in two passes over the rows.
 pub fn greedy_end(
     alloc: Global,
     rows: &SeenRows,
@@ -141,7 +141,7 @@ pub fn greedy_end(
     end_for(alloc, rows, waits, followers, &family, workers.number())
 }
 
-/// The greedy plan of the rows for p workers, as `greedy` has it, for a caller who knows which rows they wait for, what
+/// Returns the greedy plan of the rows for p workers, as `greedy` has it, for a caller who knows which rows they wait for, what
 /// follows from each, their work and their span.
 ///
 /// It answers all that `greedy` answers. `AllocError` says that memory was refused.
@@ -170,7 +170,7 @@ pub fn greedy_over(
         &consequences.family,
         p,
     )?;
-    // The changes are needed no more, and make room for the ends.
+    // The changes are needed no more, and make space for the ends.
     drop(simulation.first);
     let ends = ends_of(alloc, rows, &simulation.starts)?;
     let ends_at = last_end(&ends);
@@ -185,10 +185,10 @@ pub fn greedy_over(
     })
 }
 
-/// The greedy plan of the rows for p workers.
+/// Returns the greedy plan of the rows for p workers.
 ///
 /// All times are ticks. At each tick the rows that end free their workers first. Then, while a worker is free and
-/// a row is ready, the least-numbered ready row goes to the least-numbered free worker. A row is ready when its
+/// a row is ready, the lowest-numbered ready row goes to the lowest-numbered free worker. A row is ready when its
 /// parent started at least its offset ago, and all earlier rows that share a cown with it have ended. With exclusive
 /// cowns these are all that have a cown in common with it; with shared reads those where one of the two wrote it.
 ///

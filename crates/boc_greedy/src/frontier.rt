@@ -42,7 +42,7 @@ pub struct Frontier<'a> {
 }
 
 impl<'a> Frontier<'a> {
-    /// Main waits for a worker, and no other row is spawned. `AllocError` says that memory was refused.
+    /// Makes a frontier at which main waits for a worker, and no other row is spawned. `AllocError` says that memory was refused.
     pub fn new(
         alloc: Global,
         rows: &TimedRows,
@@ -72,7 +72,7 @@ impl<'a> Frontier<'a> {
         })
     }
 
-    /// The same for a caller who knows which rows wait for each row, and by how much: for each row it is counted for how many it waits.
+    /// Returns the same for a caller who knows which rows wait for each row, and by how much: for each row it is counted for how many it waits.
     /// `AllocError` says that memory was refused.
     pub fn behind(
         alloc: Global,
@@ -97,7 +97,7 @@ impl<'a> Frontier<'a> {
         })
     }
 
-    /// The same frontier once more. `AllocError` says that memory was refused.
+    /// Returns the same frontier once more. `AllocError` says that memory was refused.
     pub fn copied(&self, alloc: Global) -> Result<Frontier<'_>, AllocError>
         ensures kept { IfOk result (λ f. (rows : List Row) → IsFrontier rows self.now → IsFrontier rows f) }
         ensures states { IfOk result (λ f. f.states.items ≡ self.now.states.items) }
@@ -110,7 +110,7 @@ impl<'a> Frontier<'a> {
         })
     }
 
-    /// The row is spawned.
+    /// Spawns the row.
     pub fn spawn(&mut self, rows: &TimedRows, row: u32)
         requires shape { IsRows rows.now }
         requires frontier { IsFrontier rows.now self.old }
@@ -123,7 +123,7 @@ impl<'a> Frontier<'a> {
         self.wake(row, unmet);
     }
 
-    /// Starts the least of the rows that can start, if there is one.
+    /// Starts the lowest of the rows that can start, if there is one.
     pub fn start_least(&mut self, rows: &TimedRows) -> Option<u32>
         requires shape { IsRows rows.now }
         requires frontier { IsFrontier rows.now self.old }
@@ -139,7 +139,7 @@ impl<'a> Frontier<'a> {
         Some(row)
     }
 
-    /// A row that is under way ends.
+    /// Ends a row that is under way.
     pub fn end(&mut self, rows: &TimedRows, row: u32)
         requires shape { IsRows rows.now }
         requires frontier { IsFrontier rows.now self.old }

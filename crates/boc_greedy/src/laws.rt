@@ -9,13 +9,13 @@ ghost use Rattle.boc_plans.specs.Sweeps.{IsGreedyCownSweep, IsGreedySweep};
 ghost use Rattle.boc_greedy.specs.declared.points.CurvePoint.{CurvePoint};
 ghost use Rattle.boc_greedy.specs.Curves.{IsCurve, IsCurvePoint, IsLowBound};
 
-/// Rows have one greedy plan at most for each number of workers: one list of starts, and one list of the workers that rows stand on.
+/// Proves that rows have one greedy plan at most for each number of workers: one list of starts, and one list of the workers that rows are on.
 pub fn rows_have_one_greedy_plan()
     ensures { (rows : List Row) (p : ℕ) (plan workers other others : List ℕ) → IsRows rows → IsGreedy rows p plan workers → IsGreedy rows p other others
         → (plan ≡ other) × (workers ≡ others) }
 {}
 
-/// Rows have one greedy sweep at most for each number of workers, one over so many cowns, and one curve up to each number.
+/// Proves that rows have one greedy sweep at most for each number of workers, one over this many cowns, and one curve up to each number.
 pub fn rows_have_one_curve()
     ensures sweep { (rows : List Row) (p : ℕ) (ends others : List ℕ) → IsRows rows → IsGreedySweep rows p ends → IsGreedySweep rows p others
         → ends ≡ others }
@@ -25,7 +25,7 @@ pub fn rows_have_one_curve()
         → points ≡ others }
 {}
 
-/// No plan for p workers in which no row starts before its spawn, nor before the end of a row that is ordered before it, ends before the
+/// Proves that no plan for p workers in which no row starts before its spawn, nor before the end of a row that is ordered before it, ends before the
 /// low bound. The greedy plan ends there or later, and by its bound.
 pub fn plans_end_between()
     ensures none_before { (rows : List Row) (p low last : ℕ) (plan workers : List ℕ) → 0 < p → IsLowBound rows p low → Keeps rows plan

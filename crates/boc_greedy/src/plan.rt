@@ -9,7 +9,7 @@ pub struct Greedy {
     pub starts: Vec<u64>,
     /// The tick at which each row ends.
     pub ends: Vec<u64>,
-    /// The worker that each row stands on, from 0.
+    /// The worker that each row is on, from 0.
     pub workers: Vec<u32>,
     /// The end of the plan.
     pub ends_at: u64,

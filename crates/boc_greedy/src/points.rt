@@ -15,26 +15,26 @@ use crate::consequences::Consequences;
 use crate::entry::end_for;
 use boc_order::{Links, waits_and_plan};
 use boc_plans::sharing::{SeenRows, Sharing};
-use boc_plans::workers::Workers;
+use boc_program::count::Workers;
 use boc_runs::rows::Rows;
 use rayon::prelude::*;
 use std::alloc::{AllocError, Global};
 use std::thread::Threads;
 
-/// What so many workers make of some rows. All but the workers are ticks.
+/// What this many workers make of some rows. All but the workers are ticks.
 #[derive(Clone, Copy, PartialEq, Eq, Debug)]
 pub struct CurvePoint {
     /// How many workers there are.
     pub workers: u32,
     /// The end of their greedy plan.
     pub end: u64,
-    /// No plan for so many workers ends before this tick: the span, or the work divided by the workers, rounded up, if that is greater.
+    /// No plan for the given number of workers ends before this tick: the span, or the work divided by the workers, rounded up, if that is greater.
     pub low: u64,
     /// The greedy plan has ended by this tick: the work divided by the workers, rounded down, and the span.
     pub bound: u64,
 }
 
-// The point of p workers.
+// Returns the point of p workers.
 fn point_of(
     alloc: Global,
     rows: &SeenRows,
@@ -61,7 +61,7 @@ fn point_of(
     })
 }
 
-/// What 1 worker, 2 workers and so on up to the most make of the rows, as `curve` has it, for a caller who knows which rows they
+/// Returns what 1 worker, 2 workers and so on up to the most make of the rows, as `curve` has it, for a caller who knows which rows they
 /// wait for, what follows from each, their work and their span. `AllocError` says that memory was refused.
 pub fn curve_over(
     rt: &(impl Threads + Sync),
@@ -93,8 +93,8 @@ pub fn curve_over(
         .collect::<Result<Vec<CurvePoint>, AllocError>>(rt, alloc)?
 }
 
-/// For 1 worker, 2 workers and so on up to the most: the end of the greedy plan of the rows, as `greedy` has it, the tick before which
-/// no plan for so many workers ends, and the tick by which the greedy plan has ended. `AllocError` says that memory was refused.
+/// Returns for 1 worker, 2 workers and so on up to the most: the end of the greedy plan of the rows, as `greedy` has it, the tick before which
+/// no plan for the given number of workers ends, and the tick by which the greedy plan has ended. `AllocError` says that memory was refused.
 ///
 /// What depends on no number of workers is found once. Threads share out the numbers, and each plan takes memory that grows with the
 /// number of rows.

@@ -1,4 +1,4 @@
-// A set of rows, of which the least is found at once.
+// A set of rows, of which the smallest is found at once.
 
 ghost use Rattle.std.specs.Prelude.{◌≡◌, ◌≢◌, ℕ, ◌<◌, ◌≤◌, ◌⊎◌, ◌↔◌, IfOk, IfSome, IfNone};
 ghost use Rattle.boc_greedy.specs.RowSets.{IsRowSet, Has};
@@ -7,7 +7,7 @@ use crate::bits::{with_bit, without_bit};
 use std::alloc::{AllocError, Global};
 
 /// A set of rows below 65,536: a bit for each row, above each word of these bits a bit that says whether it has any,
-/// and the same once more above those. So the least row is found in three steps.
+/// and the same once more above those. So the lowest row is found in three steps.
 #[derive(Drop)]
 pub struct RowSet {
     /// A bit for each row.
@@ -19,7 +19,7 @@ pub struct RowSet {
 }
 
 impl RowSet {
-    /// No rows. `AllocError` says that memory was refused.
+    /// Makes a set of no rows. `AllocError` says that memory was refused.
     pub fn new(alloc: Global) -> Result<RowSet, AllocError>
         ensures set { IfOk result (λ s. IsRowSet s) }
         ensures rows { IfOk result (λ s. (r : ℕ) → Has s r → ⊥) }
@@ -31,7 +31,7 @@ impl RowSet {
         })
     }
 
-    /// A set of the same rows. `AllocError` says that memory was refused.
+    /// Returns a set of the same rows. `AllocError` says that memory was refused.
     pub fn copied(&self, alloc: Global) -> Result<RowSet, AllocError>
         ensures set { IfOk result (λ s. IsRowSet self.now → IsRowSet s) }
         ensures rows { IfOk result (λ s. (r : ℕ) → Has s r ↔ Has self.now r) }
@@ -57,7 +57,7 @@ impl RowSet {
         self.top = with_bit(self.top, group);
     }
 
-    /// Takes the least row out of the set, if there is one.
+    /// Takes the lowest row out of the set, if there is one.
     pub fn take_least(&mut self) -> Option<u32>
         requires { IsRowSet self.old }
         ensures set { IsRowSet self.new }
@@ -72,7 +72,7 @@ impl RowSet {
         Some(row)
     }
 
-    // The least row of the set, if there is one.
+    // Returns the lowest row of the set, if there is one.
     fn least(&self) -> Option<u32>
         requires { IsRowSet self.now }
         ensures had { IfSome result (λ row. (row < 65536) × Has self.now row) }

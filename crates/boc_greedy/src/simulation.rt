@@ -24,7 +24,7 @@ use std::collections::BinaryHeap;
 // The workers that are idle are the bits of one word.
 const _: () = prove!(MOST_WORKERS == 64);
 
-// A tick after every tick of a plan, at which rows stand that haven't started.
+// A tick after every tick of a plan, at which rows are that haven't started.
 const LATER: u64 = u64::MAX;
 
 // Has the row on top of the queue change next at this tick.
@@ -45,7 +45,7 @@ pub struct Simulation<'a> {
     pub p: u32,
     /// The tick at which each row starts, or a later one than any.
     pub starts: Vec<u64>,
-    /// The worker that each row stands on.
+    /// The worker that each row is on.
     pub workers: Vec<u32>,
     /// How far the rows are.
     pub frontier: Frontier<'a>,
@@ -57,14 +57,14 @@ pub struct Simulation<'a> {
     pub queue: BinaryHeap<Reverse<(u64, u32)>>,
     /// A bit for each worker, set for those that are idle.
     pub idle: u64,
-    /// The tick at which the simulation stands.
+    /// The tick at which the simulation is.
     pub tick: u64,
-    /// At how many ticks it has stood.
+    /// At how many ticks it has been.
     pub moments: u64,
 }
 
 impl<'a> Simulation<'a> {
-    /// Tick 0, where only main is spawned, and nothing has started.
+    /// Makes a simulation at tick 0, where only main is spawned, and nothing has started.
     pub fn new(
         alloc: Global,
         rows: &TimedRows,
@@ -98,7 +98,7 @@ impl<'a> Simulation<'a> {
         })
     }
 
-    // Gives the least row that can start to the least worker that is idle; false where no row can start.
+    // Gives the lowest row that can start to the lowest worker that is idle; false where no row can start.
     fn give(&mut self, rows: &TimedRows, worker: u32) -> Result<bool, AllocError>
         requires shape { IsRows rows.now }
         requires giving { IsGiving rows.now self.old }
@@ -164,7 +164,7 @@ impl<'a> Simulation<'a> {
         }
     }
 
-    /// The tick at which something changes next, and a row for which it does, if there is one.
+    /// Returns the tick at which something changes next, and a row for which it does, if there is one.
     pub fn next_change(&self) -> Option<(u64, u32)>
         requires { IsQueue (heap_items self.now.queue) }
         ensures top { IfSome result (λ change. IsOnTop (heap_items self.now.queue) change.0 change.1) }
@@ -175,7 +175,7 @@ impl<'a> Simulation<'a> {
         Some(*change)
     }
 
-    /// All that changes at this tick.
+    /// Makes all changes of this tick.
     pub fn change_all(&mut self, rows: &TimedRows)
         requires shape { IsRows rows.now }
         requires stepping { IsStepping rows.now self.old }
@@ -208,7 +208,7 @@ impl<'a> Simulation<'a> {
         self.change(rows, row);
     }
 
-    /// All that happens from here on before a tick.
+    /// Simulates all that happens from here on before a tick.
     pub fn go_to(&mut self, rows: &TimedRows, tick: u64) -> Result<(), AllocError>
         requires shape { IsRows rows.now }
         requires settled { IsSettled rows.now self.old }
@@ -226,7 +226,7 @@ impl<'a> Simulation<'a> {
         Ok(())
     }
 
-    /// All that happens from here on.
+    /// Simulates all that happens from here on.
     pub fn finish(&mut self, rows: &TimedRows) -> Result<(), AllocError>
         requires shape { IsRows rows.now }
         requires settled { IsSettled rows.now self.old }

@@ -4,7 +4,7 @@ use boc_plans::sharing::SeenRows;
 use boc_program::short::HeldCown;
 use std::marker::Model;
 
-/// The rows as a simulation reads them: how many they are, and what ticks they take. For which rows they wait it is told. So one of their cowns can be left
+/// The rows as a simulation reads them: how many they are, and what ticks they take. For which rows they wait it is reported. So one of their cowns can be left
 /// out, with no row copied.
 #[derive(Drop)]
 pub struct TimedRows<'a, 'b> {
@@ -31,7 +31,7 @@ impl<'a, 'b> TimedRows<'a, 'b> {
     ghost use Rattle.boc_runs.specs.Changes.{without};
     ghost use Rattle.boc_runs.specs.Rows.{IsRows, ticks_of};
 
-    /// The rows as they are.
+    /// Returns the rows as they are.
     pub fn all(rows: &'a SeenRows<'b>) -> TimedRows<'a, 'b>
         requires { IsRows rows.now }
         ensures { result ≡ rows.now }
@@ -42,7 +42,7 @@ impl<'a, 'b> TimedRows<'a, 'b> {
         }
     }
 
-    /// The rows, none of which has this cown.
+    /// Returns the rows, none of which has this cown.
     pub fn without(rows: &'a SeenRows<'b>, cown: HeldCown) -> TimedRows<'a, 'b>
         requires { IsRows rows.now }
         ensures { result ≡ without cown rows.now }
@@ -53,7 +53,7 @@ impl<'a, 'b> TimedRows<'a, 'b> {
         }
     }
 
-    /// How many rows there are.
+    /// Returns how many rows there are.
     pub fn len(&self) -> usize
         ensures count { result ≡ length self.now }
         ensures shape { IsRows self.now }
@@ -61,7 +61,7 @@ impl<'a, 'b> TimedRows<'a, 'b> {
         self.rows.len()
     }
 
-    /// The ticks that a row takes.
+    /// Returns the ticks that a row takes.
     pub fn ticks(&self, row: usize) -> u32
         requires { row < length self.now }
         ensures { result ≡ ticks_of self.now row }

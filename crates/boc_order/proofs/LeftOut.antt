@@ -18,7 +18,7 @@ use Rattle.boc_order.specs.Waits.{IsNearOn, IsNear, HaveFollowers, links_of, lis
 use Rattle.boc_order.specs.CownLinks.{AreCownLinks, AddsOthers, link_to}
 use Rattle.boc_order.proofs.Listing.{between_more, bounds_more}
 
-passes : (x cown : ℕ) → x ≢ cown → not (x == cown) ≡ true
+pub passes : (x cown : ℕ) → x ≢ cown → not (x == cown) ≡ true
 passes x cown ne = grind (arith, nat_tests)
 
 other_one : (x cown : ℕ) → not (x == cown) ≡ true → x ≢ cown

@@ -13,3 +13,14 @@ pub mod Weighing
 pub mod Fewer
 pub mod CownLinked
 pub mod LeftOut
+pub mod Totals
+pub mod Places
+pub mod Ranked
+pub mod HeaviestFirst
+pub mod Found
+pub mod HandedCowns
+pub mod LeastLoads
+pub mod LeastSpawns
+pub mod FirstStarts
+pub mod LeastBusy
+pub mod OneLeast

@@ -18,7 +18,7 @@ use boc_program::limits::{MOST_ROWS, MOST_TICKS};
 use boc_runs::rows::{Row, Rows};
 use std::alloc::{AllocError, Global};
 
-// The number of the row that ends last; of several, the least.
+// Returns the number of the row that ends last; of several, the smallest.
 fn last_row(ends: &[u64]) -> usize
     requires { 0 < length ends.now }
     ensures there { result < length ends.now }
@@ -36,7 +36,7 @@ fn last_row(ends: &[u64]) -> usize
     last
 }
 
-// The ticks of all rows together, of which each starts and ends at these ticks.
+// Returns the ticks of all rows together, of which each starts and ends at these ticks.
 fn work_between(starts: &[u64], ends: &[u64]) -> u64
     requires whole { length starts.now ≡ length ends.now }
     requires few { length ends.now ≤ MOST_ROWS }
@@ -51,7 +51,7 @@ fn work_between(starts: &[u64], ends: &[u64]) -> u64
     total
 }
 
-/// The work of the rows: the ticks of all rows together. It takes no memory.
+/// Returns the work of the rows: the ticks of all rows together. It takes no memory.
 pub fn work(rows: &[Row]) -> u64
     requires { IsRows rows.now }
     ensures { result ≡ work_of rows.now }
@@ -59,7 +59,7 @@ pub fn work(rows: &[Row]) -> u64
     rows.iter().map(|row| u64::from(row.ticks)).sum()
 }
 
-// The step whose link a row waited for.
+// Returns the step whose link a row waited for.
 fn step_before(rows: &SeenRows, after: &[Option<u32>], row: u32) -> ChainStep
     requires shape { IsRows rows.now }
     requires there { row < length rows.now }
@@ -81,7 +81,7 @@ fn step_before(rows: &SeenRows, after: &[Option<u32>], row: u32) -> ChainStep
     }
 }
 
-// The chain of the links that were waited for, which ends in the row `last`, of `rows` in the earliest plan.
+// Returns the chain of the links that were waited for, which ends in the row `last`, of `rows` in the earliest plan.
 fn chain_back(
     alloc: Global,
     rows: &SeenRows,
@@ -112,7 +112,7 @@ fn chain_back(
     Ok(Chain { steps })
 }
 
-// The chain that costs as many ticks as the plan of the rows takes, and these ticks.
+// Returns the chain that costs as many ticks as the plan of the rows takes, and these ticks.
 fn costliest(alloc: Global, rows: &SeenRows, plan: &Earliest) -> Result<(Chain, u64), AllocError>
     requires shape { IsRows rows.now }
     requires placed { IsPlanOf rows.now plan.now }
@@ -128,13 +128,13 @@ fn costliest(alloc: Global, rows: &SeenRows, plan: &Earliest) -> Result<(Chain, 
     Ok((chain, plan.ends[last]))
 }
 
-/// The work of the rows, their earliest plan, and the costliest chain of rows.
+/// Returns the work of the rows, their earliest plan, and the costliest chain of rows.
 ///
 /// A plan gives each row the tick at which it starts. It keeps if no row starts before its parent's start and
 /// its offset, nor before the end of a row with a smaller number that shares a cown with it. The earliest plan
 /// keeps and starts each row as early as any plan that keeps; the span is its end. The chain leads back from
-/// the row that ends last, of several the least, by the links that are tight in that plan: the spawn where that
-/// is tight, else the least row whose end the row waited for.
+/// the row that ends last, of several the smallest, by the links that are tight in that plan: the spawn where that
+/// is tight, else the lowest row whose end the row waited for.
 ///
 /// With exclusive cowns two rows that share one are ordered; with shared reads only where one of them wrote it.
 ///
@@ -148,7 +148,7 @@ pub fn profile(alloc: Global, rows: &Rows, sharing: Sharing) -> Result<Profile, 
 }
 
 impl Earliest {
-    /// The profile of the rows that this plan places, as the function `profile` has it. No row is placed again.
+    /// Returns the profile of the rows that this plan places, as the function `profile` has it. No row is placed again.
     ///
     /// It takes memory and time that grow with the number of rows. `AllocError` says that memory was refused.
     pub fn profile(&self, alloc: Global, rows: &SeenRows) -> Result<Profile, AllocError>
@@ -166,7 +166,7 @@ impl Earliest {
         })
     }
 
-    /// The profile as `Earliest::profile` has it, for a caller who needs the plan no more: its starts and ends are taken over, and not copied.
+    /// Returns the profile as `Earliest::profile` has it, for a caller who needs the plan no more: its starts and ends are taken over, and not copied.
     /// `AllocError` says that memory was refused, and then the plan is gone.
     pub fn into_profile(self, alloc: Global, rows: &SeenRows) -> Result<Profile, AllocError>
         requires shape { IsRows rows.now }

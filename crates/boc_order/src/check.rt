@@ -1,17 +1,19 @@
-// The test of a chain.
+// The test of a chain, and the cowns that a row hands to another.
 
 ghost use Rattle.std.specs.Prelude.{◌≡◌, ℕ, ◌<◌, ◌↔◌, length, IfOk, IfErr, IsTrue, Contains, ◌+◌, slice_get};
 ghost use Rattle.boc_runs.specs.Rows.{IsRows, cowns_of};
 ghost use Rattle.boc_plans.specs.Seen.{seen};
 ghost use Rattle.boc_plans.specs.Plans.{IsChild, ConflictOn, Ordered, NoneEndsBefore};
 ghost use Rattle.boc_plans.specs.Chains.{IsLink, IsChain, IsFirstFalse, weight_of};
+ghost use Rattle.boc_order.specs.Handed.{AreHanded};
 
 use boc_plans::chain::{Chain, ChainStep, Via};
 use boc_plans::sharing::{SeenRows, Sharing};
-use boc_program::short::HeldCown;
+use boc_program::held::HeldCowns;
+use boc_program::short::{CownNo, Cowns, HeldCown};
 use boc_runs::rows::Rows;
 
-/// Whether two rows conflict on a cown of the first: both have it, and one of them wrote it.
+/// Returns whether two rows conflict on a cown of the first: both have it, and one of them wrote it.
 pub fn conflict_on(rows: &SeenRows, cown: HeldCown, a: usize, b: usize) -> bool
     requires first { a < length rows.now }
     requires second { b < length rows.now }
@@ -24,7 +26,23 @@ pub fn conflict_on(rows: &SeenRows, cown: HeldCown, a: usize, b: usize) -> bool
     rows.writes(a, cown) || rows.writes(b, cown)
 }
 
-// Whether two rows conflict on some cown.
+/// Returns the cowns over which row a is ordered before row b, rising. It takes no memory.
+pub fn handed(rows: &SeenRows, a: usize, b: usize) -> HeldCowns
+    requires shape { IsRows rows.now }
+    requires first { a < length rows.now }
+    requires second { b < length rows.now }
+    ensures { AreHanded rows.now a b result.items }
+{
+    let mut handed = Cowns::new();
+    for own in rows.held(a).as_slice() {
+        if conflict_on(rows, *own, a, b) {
+            handed.push(CownNo::from(*own));
+        }
+    }
+    HeldCowns::of(&handed)
+}
+
+// Returns whether two rows conflict on some cown.
 fn conflict(rows: &SeenRows, a: usize, b: usize) -> bool
     requires first { a < length rows.now }
     requires second { b < length rows.now }
@@ -38,7 +56,7 @@ fn conflict(rows: &SeenRows, a: usize, b: usize) -> bool
     false
 }
 
-// Whether row b comes after row a, and conflicts with it on a cown.
+// Returns whether row b comes after row a, and conflicts with it on a cown.
 fn are_ordered(rows: &SeenRows, a: u32, b: u32) -> bool
     requires { a < length rows.now }
     ensures { IsTrue result ↔ Ordered rows.now a b }
@@ -49,7 +67,7 @@ fn are_ordered(rows: &SeenRows, a: u32, b: u32) -> bool
     a < b && conflict(rows, a as usize, b as usize)
 }
 
-// Whether row b is a child of row a.
+// Returns whether row b is a child of row a.
 fn is_child(rows: &SeenRows, a: u32, b: u32) -> bool
     ensures { IsTrue result ↔ IsChild rows.now a b }
 {
@@ -59,7 +77,7 @@ fn is_child(rows: &SeenRows, a: u32, b: u32) -> bool
     rows.parent(b as usize) == a
 }
 
-// Whether the link of the step holds, where `next` is the step after it.
+// Returns whether the link of the step holds, where `next` is the step after it.
 fn is_link(rows: &SeenRows, step: ChainStep, next: Option<ChainStep>) -> bool
     requires { IsRows rows.now }
     ensures { IsTrue result ↔ IsLink rows.now step next }
@@ -78,7 +96,7 @@ fn is_link(rows: &SeenRows, step: ChainStep, next: Option<ChainStep>) -> bool
     }
 }
 
-// Whether the step at this place holds, where `next` is the step after it.
+// Returns whether the step at this place holds, where `next` is the step after it.
 fn holds(rows: &SeenRows, place: usize, step: ChainStep, next: Option<ChainStep>) -> bool
     requires { IsRows rows.now }
     ensures { IsTrue result ↔ ((place ≡ 0 → step.row ≡ 0) × IsLink rows.now step next) }
@@ -86,7 +104,7 @@ fn holds(rows: &SeenRows, place: usize, step: ChainStep, next: Option<ChainStep>
     (place != 0 || step.row == 0) && is_link(rows, step, next)
 }
 
-// The step after the one at this place, if any.
+// Returns the step after the one at this place, if any.
 fn step_after(steps: &[ChainStep], place: usize) -> Option<ChainStep>
     requires { place < length steps.now }
     ensures { result ≡ slice_get steps.now (place + 1) }
@@ -94,7 +112,7 @@ fn step_after(steps: &[ChainStep], place: usize) -> Option<ChainStep>
     steps.get(place + 1).copied()
 }
 
-/// The weight of the chain in ticks, if it is one; else the place of its first false step, and 0 if it is empty.
+/// Returns the weight of the chain in ticks, if it is one; else the place of its first false step, and 0 if it is empty.
 ///
 /// The first step of a chain is row 0. A spawn leads to a child of the step's row and weighs the child's offset.
 /// An order leads to a later row that shares a cown with the step's row, and weighs that row's ticks; where reads are
@@ -112,7 +130,7 @@ pub fn check_chain(rows: &Rows, chain: &Chain, sharing: Sharing) -> Result<u64, 
     check_steps(&SeenRows::new(rows, sharing), chain.steps.as_slice())
 }
 
-// The weight of these steps, if they make a chain; else the place of the first false one.
+// Returns the weight of these steps, if they make a chain; else the place of the first false one.
 fn check_steps(rows: &SeenRows, steps: &[ChainStep]) -> Result<u64, usize>
     requires { IsRows rows.now }
     ensures chain { IfOk result (λ w. IsChain rows.now steps.now) }

@@ -76,7 +76,7 @@ fn link_row(
     Ok(())
 }
 
-/// All links of the rows, each with its cown. `AllocError` says that memory was refused.
+/// Returns all links of the rows, each with its cown. `AllocError` says that memory was refused.
 ///
 /// There are at most twice as many as the rows have cowns.
 pub fn links_by_cown(alloc: Global, rows: &SeenRows) -> Result<CownLinks, AllocError>
@@ -115,7 +115,7 @@ fn add_others(
     Ok(place)
 }
 
-/// For each row those that wait for it, where no row has this cown. `AllocError` says that memory was refused.
+/// Returns for each row those that wait for it, where no row has this cown. `AllocError` says that memory was refused.
 ///
 /// It takes one pass over the links, and copies no row.
 pub fn followers_without(

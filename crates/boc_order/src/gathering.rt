@@ -109,12 +109,12 @@ pub struct Gathering {
     pub uses: Vec<Use>,
     /// Where each row's waits begin in the list, and where those of the last row end.
     pub first: Vec<u32>,
-    /// The waits of all rows, one behind the other.
+    /// The waits of all rows, one after the other.
     pub list: Vec<u32>,
 }
 
 impl Gathering {
-    // No row's waits are gathered, and there is room for the bounds of so many. `AllocError` says that memory was
+    // No row's waits are gathered, and there is space for the bounds of this many. `AllocError` says that memory was
     // refused.
     pub(crate) fn with_room(alloc: Global, count: usize) -> Result<Gathering, AllocError>
         requires { count ≤ MOST_ROWS }
@@ -142,7 +142,7 @@ impl Gathering {
         Ok(())
     }
 
-    // The waits of a row, the last so far.
+    // Returns the waits of a row, the last so far.
     pub(crate) fn last(&self, row: usize) -> &[u32]
         requires bounds { AreBounds self.now.first.items (length self.now.list.items) }
         requires last { length self.now.first.items ≡ row + 2 }
@@ -151,7 +151,7 @@ impl Gathering {
         &self.list[self.first[row] as usize..]
     }
 
-    // The waits of all rows.
+    // Returns the waits of all rows.
     pub(crate) fn into_links(self) -> Links
         requires { AreBounds self.first.items (length self.list.items) }
         ensures { result ≡ lists_between self.first.items self.list.items }

@@ -3,7 +3,7 @@
 ghost use Rattle.std.specs.Prelude.{◌≡◌, ℕ, ◌<◌, length, slice_index, Contains};
 ghost use Rattle.boc_order.specs.Latest.{later_of, IsLatestOf};
 
-/// The latest end among some rows, and the least-numbered row that has it. Where there are no rows the end is 0,
+/// The latest end among some rows, and the lowest-numbered row that has it. Where there are no rows the end is 0,
 /// since each row ends after tick 0.
 #[derive(Clone, Copy)]
 pub struct Latest {
@@ -13,7 +13,7 @@ pub struct Latest {
     pub row: u32,
 }
 
-// The one that ends later; where both end together, the one with the smaller number. Ends are in no order that could
+// Returns the one that ends later; where both end together, the one with the smaller number. Ends are in no order that could
 // be foretold, so each part is chosen by itself, in a way that needs no branch.
 fn later(a: Latest, b: Latest) -> Latest
     ensures { result ≡ later_of a b }
@@ -29,7 +29,7 @@ fn later(a: Latest, b: Latest) -> Latest
     }
 }
 
-/// The latest of these rows, by the ticks at which rows end.
+/// Returns the latest of these rows, by the ticks at which rows end.
 pub fn latest_of(rows: &[u32], ends: &[u64]) -> Latest
     requires there { (a : ℕ) → Contains rows.now a → a < length ends.now }
     requires late { (a : ℕ) → a < length ends.now → 0 < slice_index ends.now a }

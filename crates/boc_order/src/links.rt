@@ -25,7 +25,7 @@ impl Model for Links {
     ghost invariant = { λ l. AreBounds l.first.items (length l.list.items) };
 }
 
-// The place at which a list of links ends, as places are kept. A list that is too long for them is memory that is
+// Returns the place at which a list of links ends, as places are kept. A list that is too long for them is memory that is
 // refused.
 pub(crate) fn end_of(list: &[u32]) -> Result<u32, AllocError>
     ensures { IfOk result (λ end. end ≡ length list.now) }
@@ -38,7 +38,7 @@ impl Links {
     ghost use Rattle.std.specs.List.{concat};
     ghost use Rattle.boc_order.specs.Waits.{lists_between, links_of, AreBounds};
 
-    /// The lists between these places of a flat list.
+    /// Returns the lists between these places of a flat list.
     pub(crate) fn new(first: Vec<u32>, list: Vec<u32>) -> Links
         requires { AreBounds first.items (length list.items) }
         ensures { result ≡ lists_between first.items list.items }
@@ -46,21 +46,21 @@ impl Links {
         Links { first, list }
     }
 
-    /// All links, those of one row behind those of another.
+    /// Returns all links, those of one row after those of another.
     pub(crate) fn all(&self) -> &[u32]
         ensures { result.now ≡ concat self.now }
     {
         &self.list[self.first[0] as usize..]
     }
 
-    /// How many rows there are.
+    /// Returns how many rows there are.
     pub fn len(&self) -> usize
         ensures { result ≡ length self.now }
     {
         self.first.as_slice().len() - 1
     }
 
-    /// How many links a row has.
+    /// Returns how many links a row has.
     pub fn count(&self, row: usize) -> u32
         requires { row < length self.now }
         ensures { result ≡ length (links_of self.now row) }
@@ -68,7 +68,7 @@ impl Links {
         self.first[row + 1] - self.first[row]
     }
 
-    /// The links of a row.
+    /// Returns the links of a row.
     pub fn of(&self, row: usize) -> &[u32]
         requires { row < length self.now }
         ensures { result.now ≡ links_of self.now row }

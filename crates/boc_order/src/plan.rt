@@ -26,7 +26,7 @@ pub struct Earliest {
     pub after: Vec<Option<u32>>,
 }
 
-// The tick at which a row starts that is spawned at a tick, and the row whose end it waits for, if any. `busy` is
+// Returns the tick at which a row starts that is spawned at a tick, and the row whose end it waits for, if any. `busy` is
 // the latest of the rows that are ordered before it.
 fn earliest_start(spawned: u64, busy: Latest) -> (u64, Option<u32>)
     ensures { result ≡ placement spawned busy }
@@ -38,7 +38,7 @@ fn earliest_start(spawned: u64, busy: Latest) -> (u64, Option<u32>)
     }
 }
 
-/// The tick at which a row is spawned, where rows start at these ticks: so many after its parent starts as it is offset, and 0 for main, which no
+/// Returns the tick at which a row is spawned, where rows start at these ticks: this many after its parent starts as it is offset, and 0 for main, which no
 /// row spawns.
 pub fn spawned_at(rows: &SeenRows, row: usize, starts: &[u64]) -> u64
     requires there { row < length rows.now }
@@ -54,7 +54,7 @@ pub fn spawned_at(rows: &SeenRows, row: usize, starts: &[u64]) -> u64
     }
 }
 
-/// The last of the ticks at which rows end. It takes no memory.
+/// Returns the last of the ticks at which rows end. It takes no memory.
 pub fn last_end(ends: &[u64]) -> u64
     requires { 0 < length ends.now }
     ensures none_later { (k : ℕ) → k < length ends.now → slice_index ends.now k ≤ result }
@@ -64,7 +64,7 @@ pub fn last_end(ends: &[u64]) -> u64
 }
 
 impl Earliest {
-    /// No row is placed, and there is room for so many. `AllocError` says that memory was refused.
+    /// Makes a plan in which no row is placed, with space for this many. `AllocError` says that memory was refused.
     pub fn with_room(alloc: Global, count: usize) -> Result<Earliest, AllocError>
         ensures none { IfOk result (λ e. (e.starts.items ≡ []) × (e.ends.items ≡ []) × (e.after.items ≡ [])) }
         ensures room { IfOk result (λ e. HasRoom e count) }
@@ -76,7 +76,7 @@ impl Earliest {
         })
     }
 
-    /// Places the rows from a given one on anew, where those before it stand as they must. It takes no memory.
+    /// Places the rows from a given one on again, where those before it are as they must be. It takes no memory.
     pub fn place_from(&mut self, rows: &SeenRows, waits: &Links, from: usize)
         requires shape { IsRows rows.now }
         requires waits { AreWaits rows.now waits.now }
@@ -94,7 +94,7 @@ impl Earliest {
         }
     }
 
-    /// The end of the plan in ticks, which is the span of the rows that it places. It takes no memory.
+    /// Returns the end of the plan in ticks, which is the span of the rows that it places. It takes no memory.
     pub fn span(&self) -> u64
         requires { 0 < length self.now.ends.items }
         ensures { (rows : List Row) → IsRows rows → IsPlanOf rows self.now → IsSpan rows result }
@@ -102,7 +102,7 @@ impl Earliest {
         last_end(&self.ends)
     }
 
-    // Places the next row, which waits for these, behind those that are placed.
+    // Places the next row, which waits for these, after those that are placed.
     fn place_next(&mut self, rows: &SeenRows, number: usize, waits: &[u32])
         requires shape { IsRows rows.now }
         requires there { number < length rows.now }
@@ -121,8 +121,8 @@ impl Earliest {
     }
 }
 
-/// For each row the nearest rows that it waits for, and the earliest plan of the rows. Every other row that a row waits
-/// for is before one of these. One may stand twice where two cowns are in common.
+/// Returns for each row the nearest rows that it waits for, and the earliest plan of the rows. Every other row that a row waits
+/// for is before one of these. One may be twice where two cowns are in common.
 ///
 /// There are at most twice as many links as the rows have cowns, and it takes memory and time that grow with the
 /// number of rows and of these. `AllocError` says that memory was refused.
@@ -141,14 +141,14 @@ pub fn waits_and_plan(alloc: Global, rows: &SeenRows) -> Result<(Links, Earliest
     Ok((gathering.into_links(), plan))
 }
 
-/// The earliest plan of the rows, each of which is placed as soon as it is known for which rows it waits. `AllocError`
+/// Returns the earliest plan of the rows, each of which is placed as soon as it is known for which rows it waits. `AllocError`
 /// says that memory was refused.
 pub fn plan_of(alloc: Global, rows: &SeenRows) -> Result<Earliest, AllocError>
     ensures shape { IsRows rows.now }
     ensures placed { IfOk result (λ e. ArePlaced rows.now e.starts.items e.ends.items e.after.items (length rows.now)) }
     ensures room { IfOk result (λ e. HasRoom e (length rows.now)) }
 {
-    // A loop of its own beside that of `waits_and_plan`: no link is kept beyond its row, so one list serves all rows.
+    // A loop of its own apart from that of `waits_and_plan`: no link is kept beyond its row, so one list serves all rows.
     let mut plan = Earliest::with_room(alloc, rows.len())?;
     let mut uses = unused(alloc)?;
     let mut list = Vec::new(alloc);

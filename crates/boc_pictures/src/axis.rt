@@ -17,7 +17,7 @@ impl fmt::Display for Tenths {
     }
 }
 
-/// Where numbers up to an end stand on a line: it begins at a place, and is so long. Places and lengths are tenths of a pixel.
+/// Where numbers up to an end are on a line: it begins at a place, and is so long. Places and lengths are tenths of a pixel.
 #[derive(Clone, Copy, Debug)]
 pub(crate) struct Axis {
     pub(crate) end: u64,
@@ -26,17 +26,17 @@ pub(crate) struct Axis {
 }
 
 impl Axis {
-    /// How long so many of the numbers are.
+    /// Returns how long this many of the numbers are.
     pub(crate) fn long(self, number: u64) -> u64 {
         number.saturating_mul(self.length) / self.end.max(1)
     }
 
-    /// The place of a number.
+    /// Returns the place of a number.
     pub(crate) fn at(self, number: u64) -> Tenths {
         Tenths(self.from.saturating_add(self.long(number)))
     }
 
-    /// How far from each other the numbers are that stand beside the line: a power of ten, or two or five of it, at most so many of them.
+    /// Returns how far from each other the numbers are that are next to the line: a power of ten, or two or five of it, at most this many of them.
     pub(crate) fn step(self, most: u64) -> u64 {
         let mut step: u64 = 1;
         for _ in 0..60 {
@@ -49,7 +49,7 @@ impl Axis {
     }
 }
 
-// The step after one: 1, 2, 5, 10, 20, 50 and so on.
+// Returns the step after one: 1, 2, 5, 10, 20, 50 and so on.
 fn next_step(step: u64) -> u64 {
     let mut lead = step;
     for _ in 0..20 {

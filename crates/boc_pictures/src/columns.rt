@@ -2,7 +2,7 @@
 
 use std::alloc::{AllocError, Global};
 
-/// So many ticks to a column, up to an end.
+/// The given number of ticks to a column, up to an end.
 #[derive(Clone, Copy, Debug)]
 pub(crate) struct Columns {
     ticks: u64,
@@ -10,7 +10,7 @@ pub(crate) struct Columns {
 }
 
 impl Columns {
-    /// As few ticks to a column as go into at most so many columns.
+    /// Makes columns of as few ticks as go into at most this many of them.
     pub(crate) fn new(end: u64, most: usize) -> Columns {
         let most = (most as u64).max(1);
         let ticks = up(end, most).max(1);
@@ -27,12 +27,12 @@ impl Columns {
         }
     }
 
-    /// How many columns there are.
+    /// Returns how many columns there are.
     pub(crate) fn count(self) -> usize {
         up(self.end, self.ticks) as usize
     }
 
-    /// A line of blanks.
+    /// Returns a line of blanks.
     pub(crate) fn line(self, alloc: Global) -> Result<Vec<u8>, AllocError> {
         let mut line = Vec::new(alloc);
         for _ in 0..self.count() {
@@ -60,7 +60,7 @@ impl Columns {
     }
 }
 
-/// A number divided by another one, rounded up.
+/// Returns a number divided by another one, rounded up.
 pub(crate) fn up(number: u64, by: u64) -> u64 {
     let by = by.max(1);
     let whole = number / by;
@@ -71,7 +71,7 @@ pub(crate) fn up(number: u64, by: u64) -> u64 {
     }
 }
 
-/// A part of a whole in percents, rounded down.
+/// Returns a part of a whole in percents, rounded down.
 pub(crate) fn percent(part: u64, whole: u64) -> u64 {
     part.saturating_mul(100) / whole.max(1)
 }
@@ -79,12 +79,13 @@ pub(crate) fn percent(part: u64, whole: u64) -> u64 {
 // How many blanks the rest of a folded line begins with.
 const INDENT: usize = 2;
 
-/// The most columns that a word of a folded line takes, where lines have so many.
+/// Returns the most columns that a word of a folded line takes, where lines have this many.
 pub(crate) fn longest_word(width: usize) -> usize {
     width.saturating_sub(INDENT)
 }
 
-/// Puts a line of words in so many columns: where they don't fit, it goes on in a further line. A word that is longer than `longest_word` stands there whole.
+/// Puts a line of words in the given number of columns: where they don't fit, it goes on in a further line. A word that is longer than `longest_word` is there
+/// whole.
 pub(crate) fn put_folded(text: &mut String, line: &str, width: usize) -> Result<(), AllocError> {
     let mut column: usize = 0;
     let mut blanks: usize = 0;
@@ -127,7 +128,7 @@ pub(crate) fn put_line(text: &mut String, line: &[u8]) -> Result<(), AllocError>
     text.push('|')
 }
 
-/// Puts a word, and blanks up to so many columns.
+/// Puts a word, and blanks up to the given number of columns.
 pub(crate) fn put_padded(text: &mut String, word: &str, width: usize) -> Result<(), AllocError> {
     text.push_str(word)?;
     for _ in word.len()..width {

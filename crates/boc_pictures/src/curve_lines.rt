@@ -4,20 +4,20 @@ use crate::columns::{percent, put_folded};
 use boc_greedy::CurvePoint;
 use std::alloc::{AllocError, Global};
 
-// How many marks the greatest speed-up takes at the most.
+// How many marks the greatest speed-up takes at most.
 const MOST_MARKS: usize = 40;
 
-// How many columns stand before the marks, and how many are left where the bounds are left out. That is done where marks would have fewer than ten.
+// How many columns are before the marks, and how many are left where the bounds are left out. That is done where marks would have fewer than ten.
 const FULL: usize = 54;
 
 const NARROW: usize = 32;
 
 const LEAST_MARKS: usize = 10;
 
-// How many digits an end has at the most, where the table's head stands right above it.
+// How many digits an end has at most, where the table's head is right above it.
 const DIGITS: usize = 10;
 
-// How many digits a number has.
+// Returns how many digits a number has.
 fn digits(number: u64) -> usize {
     let mut digits: usize = 1;
     let mut rest = number / 10;
@@ -34,14 +34,14 @@ fn digits(number: u64) -> usize {
 /// The columns of the table.
 #[derive(Clone, Copy)]
 struct Shape {
-    // Whether the bounds stand there.
+    // Whether the bounds are there.
     full: bool,
     // How many marks the greatest speed-up takes.
     marks: usize,
 }
 
 impl Shape {
-    // The table of these points in so many columns.
+    // Returns the table of these points in the given number of columns.
     fn within(points: &[CurvePoint], width: usize) -> Shape {
         let full = width >= FULL + LEAST_MARKS;
         let (taken, numbers) = if full { (FULL, 3) } else { (NARROW, 1) };
@@ -55,7 +55,7 @@ impl Shape {
         }
     }
 
-    // The table's head.
+    // Returns the table's head.
     fn head(self) -> &'static str {
         if self.full {
             "  p        end      least      bound  speed-up  busy\n"
@@ -65,7 +65,7 @@ impl Shape {
     }
 }
 
-/// The number of workers from which on none ends sooner: the first one with the least end.
+/// Returns the number of workers from which on none ends sooner: the first one with the earliest end.
 pub(crate) fn enough(points: &[CurvePoint]) -> u32 {
     let mut least = u64::MAX;
     let mut workers = 1;
@@ -78,13 +78,13 @@ pub(crate) fn enough(points: &[CurvePoint]) -> u32 {
     workers
 }
 
-/// The speed-up of a plan over one worker, in hundredths.
+/// Returns the speed-up of a plan over one worker, in hundredths.
 pub(crate) fn speed_up(work: u64, end: u64) -> u64 {
     percent(work, end)
 }
 
-/// What each number of workers makes of some rows: when their greedy plan ends, how much sooner that is than for one worker, and how busy they are. Of
-/// all numbers those stand here that are powers of two, and the one from which on none ends sooner. It takes so many columns; in a narrow table the bounds
+/// Returns what each number of workers makes of some rows: when their greedy plan ends, how much sooner that is than for one worker, and how busy they are. Of
+/// all numbers those are here that are powers of two, and the one from which on none ends sooner. It takes this many columns; in a narrow table the bounds
 /// are left out.
 pub fn curve_text(
     alloc: Global,
@@ -137,7 +137,7 @@ fn put_point(
     text.push('\n')
 }
 
-// From which number of workers on none gains anything, where that is known: where their plan ends at the span. Else of which of these
+// Returns from which number of workers on none gains anything, where that is known: where their plan ends at the span. Else of which of these
 // numbers the plan ends soonest.
 fn gain_of(alloc: Global, span: u64, points: &[CurvePoint]) -> Result<String, AllocError> {
     let enough = enough(points);

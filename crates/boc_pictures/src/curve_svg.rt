@@ -17,7 +17,7 @@ const TOP: u64 = 500;
 
 const BOTTOM: u64 = 3_800;
 
-/// Where the points of a curve stand: across by workers, and up by the speed-up over one worker, in hundredths.
+/// Where the points of a curve are: across by workers, and up by the speed-up over one worker, in hundredths.
 #[derive(Clone, Copy)]
 struct Plot {
     across: Axis,
@@ -36,7 +36,7 @@ enum End {
 }
 
 impl End {
-    // The class of its line.
+    // Returns the class of its line.
     fn class(self) -> &'static str {
         match self {
             End::Least => "least",
@@ -45,7 +45,7 @@ impl End {
         }
     }
 
-    // The tick that it is for so many workers.
+    // Returns the tick that it is for the given number of workers.
     fn of(self, point: &CurvePoint) -> u64 {
         match self {
             End::Least => point.low,
@@ -56,14 +56,14 @@ impl End {
 }
 
 impl Plot {
-    // The place of a speed-up, from above.
+    // Returns the place of a speed-up, from above.
     fn y(self, hundredths: u64) -> Tenths {
         Tenths(BOTTOM.saturating_sub(self.up.long(hundredths)))
     }
 }
 
-/// How much faster the greedy plan for each number of workers is than one worker, as a drawing in SVG, between what it can't fall below and what no plan
-/// gets above.
+/// Returns how much faster the greedy plan for each number of workers is than one worker, as a drawing in SVG, between what it can't fall below and what no
+/// plan gets above.
 pub fn curve_drawing(
     alloc: Global,
     work: u64,
@@ -102,7 +102,7 @@ pub fn curve_drawing(
     Ok(text)
 }
 
-// The points up to where twice as many workers stand as bring anything, and eight at least.
+// Returns the points up to where twice as many workers are as gain anything, and eight at least.
 fn told(points: &[CurvePoint]) -> &[CurvePoint] {
     let count = (enough(points) as usize).saturating_mul(2).max(8);
     match points.get(..count) {
@@ -111,7 +111,7 @@ fn told(points: &[CurvePoint]) -> &[CurvePoint] {
     }
 }
 
-// Puts the frame, the numbers of workers below it, and the speed-ups beside it.
+// Puts the frame, the numbers of workers below it, and the speed-ups next to it.
 fn put_scales(text: &mut String, plot: Plot, most: u64) -> Result<(), AllocError> {
     writeln!(
         text,

@@ -3,7 +3,7 @@
 use crate::axis::Tenths;
 use std::alloc::AllocError;
 
-// The colours of drawings. The chain's is told from the others' also by those who see no red or green, and in print by its darkness. The edges
+// The colours of drawings. The chain's is distinguished from the others' also by those who see no red or green, and in print by its darkness. The edges
 // of bars stay as thin where a drawing is made larger.
 const STYLE: &str = "<style>
 svg{background:#fff;color-scheme:light dark}

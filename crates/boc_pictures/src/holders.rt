@@ -9,7 +9,7 @@ use boc_names::text_at;
 use std::alloc::{AllocError, Global};
 use std::cmp::Reverse;
 
-// The most columns that a name takes, and the least that are left for the bars.
+// The most columns that a name takes, and the smallest that are left for the bars.
 const MOST_LABEL: usize = 24;
 
 const LEAST_BARS: usize = 20;
@@ -21,8 +21,8 @@ struct Held {
     ticks: u64,
 }
 
-/// Who holds each cown in the earliest plan, in so many columns: a letter for each def, and what part of the span the cown is held. Of more than
-/// 60 cowns those stand here that are held longest.
+/// Returns which rows hold each cown in the earliest plan, in the given number of columns: a letter for each def, and what part of the span the cown is held.
+/// Of more than 60 cowns those are here that are held longest.
 pub fn cowns_text(alloc: Global, subject: &Subject, width: usize) -> Result<String, AllocError> {
     let mut held = held_of(alloc, subject)?;
     let all = held.len();
@@ -69,14 +69,14 @@ impl Holding {
     }
 }
 
-// The rows, those that start first in front.
+// Returns the rows, those that start first in front.
 fn by_start(alloc: Global, subject: &Subject) -> Result<Vec<Shown>, AllocError> {
     let mut rows = Vec::from_slice(alloc, &subject.shown)?;
     rows.sort_unstable_by_key(|row| (row.start, row.row));
     Ok(rows)
 }
 
-// The cowns that some row has, and for how many ticks: those at which several rows read one count once.
+// Returns the cowns that some row has, and for how many ticks: those at which several rows read one count once.
 fn held_of(alloc: Global, subject: &Subject) -> Result<Vec<Held>, AllocError> {
     let none = Holding { ticks: 0, until: 0 };
     let mut holdings = vec![in alloc; none; subject.names.cowns.len()]?;
@@ -99,7 +99,7 @@ fn held_of(alloc: Global, subject: &Subject) -> Result<Vec<Held>, AllocError> {
     Ok(held)
 }
 
-// How many columns the longest of these names takes, but for what is too long.
+// Returns how many columns the longest of these names takes, except what is too long.
 fn label_width(subject: &Subject, held: &[Held]) -> usize {
     let mut width = 0;
     for held in held {

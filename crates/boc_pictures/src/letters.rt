@@ -14,7 +14,7 @@ const MOST_NAME: usize = 40;
 // What stands for a letter where none is free.
 const NO_LETTER: u8 = b'*';
 
-// The first of these letters that is not taken.
+// Returns the first of these letters that is not taken.
 fn first_free(letters: &[u8], taken: &[u8]) -> u8 {
     for letter in letters {
         if !taken.contains(letter) {
@@ -24,7 +24,7 @@ fn first_free(letters: &[u8], taken: &[u8]) -> u8 {
     NO_LETTER
 }
 
-// The letter of a def: its first one, small or great, or another one.
+// Returns the letter of a def: its first one, small or great, or another one.
 fn letter_of(name: &[u8], taken: &[u8]) -> u8 {
     let first = match name.first() {
         Some(first) => *first,
@@ -40,7 +40,7 @@ fn letter_of(name: &[u8], taken: &[u8]) -> u8 {
     }
 }
 
-/// A letter for each def of these names, or none at all where there are more defs than letters.
+/// Returns a letter for each def of these names, or none at all where there are more defs than letters.
 pub(crate) fn letters(alloc: Global, names: &[Vec<u8>]) -> Result<Vec<u8>, AllocError> {
     let mut letters = Vec::new(alloc);
     if names.len() > OTHERS.len() {
@@ -53,7 +53,7 @@ pub(crate) fn letters(alloc: Global, names: &[Vec<u8>]) -> Result<Vec<u8>, Alloc
     Ok(letters)
 }
 
-/// What stands for a row: the letter of its def, or, where there are no letters, `#` on the chain, and `=` elsewhere.
+/// Returns what stands for a row: the letter of its def, or, where there are no letters, `#` on the chain, and `=` elsewhere.
 pub(crate) fn mark_of(letters: &[u8], subject: &Subject, row: u32) -> u8 {
     match letters.get(subject.def(row)) {
         Some(letter) => *letter,
@@ -62,7 +62,7 @@ pub(crate) fn mark_of(letters: &[u8], subject: &Subject, row: u32) -> u8 {
     }
 }
 
-/// Puts what marks stand for, each name so that it fits into a line of so many columns.
+/// Puts what marks stand for, each name so that it fits into a line of the given number of columns.
 pub(crate) fn put_key(
     alloc: Global,
     text: &mut String,

@@ -12,7 +12,7 @@ use std::alloc::{AllocError, Global};
 // The most bytes of a name.
 const NAME_BYTES: usize = 80;
 
-/// What a page shows beside the chain: the drawings, the span that each row with its least ticks would leave, the cowns, and the program's text, which is empty
+/// What a page shows with the chain: the drawings, the span that each row with its least ticks would leave, the cowns, and the program's text, which is empty
 /// for a record.
 #[derive(Drop)]
 pub struct Page<'a> {
@@ -24,7 +24,7 @@ pub struct Page<'a> {
     pub program: &'a [u8],
 }
 
-/// A page that stands alone, in HTML.
+/// Returns a page that is self-contained, in HTML.
 pub fn page_text(alloc: Global, page: &Page) -> Result<String, AllocError> {
     let subject = page.subject;
     let mut text = String::new(alloc);
@@ -144,7 +144,7 @@ fn put_rows(alloc: Global, text: &mut String, page: &Page) -> Result<(), AllocEr
     put_rest(text, subject.count())
 }
 
-// How many of the chain's ticks go through the rows of a def.
+// Returns how many of the chain's ticks go through the rows of a def.
 fn ticks_through(subject: &Subject, def: usize) -> u64 {
     let mut ticks: u64 = 0;
     for step in &subject.chain {
@@ -155,7 +155,7 @@ fn ticks_through(subject: &Subject, def: usize) -> u64 {
     ticks
 }
 
-// The word behind `def`, where a line begins so, or `main`.
+// Returns the word after `def`, where a line begins so, or `main`.
 fn def_named(line: &[u8]) -> &[u8] {
     let line = line.trim_ascii_start();
     if line.starts_with(b"main") {
@@ -175,7 +175,7 @@ fn def_named(line: &[u8]) -> &[u8] {
     }
 }
 
-// The def of this name.
+// Returns the def of this name.
 fn def_of(subject: &Subject, name: &[u8]) -> Option<usize> {
     for def in 0..subject.names.def_names.len() {
         if text_at(&subject.names.def_names, def) == name {
@@ -185,7 +185,7 @@ fn def_of(subject: &Subject, name: &[u8]) -> Option<usize> {
     None
 }
 
-// Puts the text of the program, with how much of the chain goes through a def beside its line.
+// Puts the text of the program, with how much of the chain goes through a def with its line.
 fn put_program(alloc: Global, text: &mut String, page: &Page) -> Result<(), AllocError> {
     let subject = page.subject;
     for line in page.program.split(|byte| *byte == b'\n') {

@@ -1,5 +1,5 @@
 // What each page has: its style and its script. A page is read without the script too, which sorts tables, zooms, lights up what belongs
-// together and tells what a pointer is over.
+// together and says what a pointer is over.
 
 /// The style of a page.
 pub(crate) const STYLE: &str = "<style>

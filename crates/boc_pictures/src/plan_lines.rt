@@ -9,13 +9,13 @@ use std::alloc::{AllocError, Global};
 /// The most lines that are drawn.
 pub(crate) const MOST_LINES: usize = 60;
 
-// The most columns that a label takes, and the least that are left for the bars.
+// The most columns that a label takes, and the smallest that are left for the bars.
 const MOST_LABEL: usize = 36;
 
 const LEAST_BARS: usize = 20;
 
-/// The earliest plan, a line for each row, in so many columns. Where there are more than 60 rows, those that don't overlap share lines, and
-/// where that takes more than 60 lines too, a line tells of a def how many of its rows run.
+/// Returns the earliest plan, a line for each row, in the given number of columns. Where there are more than 60 rows, those that don't overlap share lines, and
+/// where that takes more than 60 lines too, a line reports on a def how many of its rows run.
 pub fn plan_text(alloc: Global, subject: &Subject, width: usize) -> Result<String, AllocError> {
     let head = format!(in alloc;
         "rows {}   work {}   span {}",
@@ -109,7 +109,7 @@ fn put_rows(
     Ok(())
 }
 
-// How many columns the longest name takes, but for what is too long.
+// Returns how many columns the longest name takes, except what is too long.
 fn label_width(subject: &Subject) -> usize {
     let mut width = 0;
     for name in &subject.names.rows {
@@ -149,7 +149,7 @@ fn put_lanes(
     Ok(())
 }
 
-// How many of nine parts of the most a number is, rounded up.
+// Returns how many of nine parts of the most a number is, rounded up.
 fn digit(number: u64, most: u64) -> u8 {
     let ninths = up(number.saturating_mul(9), most).min(9);
     if ninths == 0 {
@@ -187,7 +187,7 @@ fn put_sums(
     Ok(())
 }
 
-// How many rows of a def run in each column, or of all.
+// Returns how many rows of a def run in each column, or of all.
 fn counts(
     alloc: Global,
     subject: &Subject,
@@ -206,7 +206,7 @@ fn counts(
     Ok(counts)
 }
 
-// Puts a line of counts behind a name.
+// Puts a line of counts after a name.
 fn put_sum(
     alloc: Global,
     text: &mut String,

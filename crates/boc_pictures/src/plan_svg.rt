@@ -23,7 +23,7 @@ const NO_LABELS: u64 = 900;
 
 const LANE: u64 = 200;
 
-// How high all lanes are together where there are many, and one at the least.
+// How high all lanes are together where there are many, and one at least.
 const ALL_LANES: u64 = 16_000;
 
 const LEAST_LANE: u64 = 3;
@@ -31,7 +31,7 @@ const LEAST_LANE: u64 = 3;
 // How wide a letter of a link's text is.
 const LETTER: u64 = 66;
 
-// The most bytes of a name beside a bar, and of one that a mouse shows.
+// The most bytes of a name with a bar, and of one that a mouse shows.
 const LABEL_BYTES: usize = 28;
 
 const TITLE_BYTES: usize = 80;
@@ -45,23 +45,23 @@ const MOST_IDS: usize = 5_000;
 /// The most rows that a table of a page lists.
 pub(crate) const MOST_LISTED: usize = 1_000;
 
-/// Where the bars of a plan stand.
+/// Where the bars of a plan are.
 #[derive(Clone, Copy)]
 struct Layout {
     axis: Axis,
     // How high a lane is.
     lane: u64,
-    // Whether each row has a lane of its own, with its name beside it.
+    // Whether each row has a lane of its own, with its name next to it.
     named: bool,
 }
 
 impl Layout {
-    // The upper edge of a lane.
+    // Returns the upper edge of a lane.
     fn top(self, lane: u32) -> u64 {
         self.lane.saturating_mul(lane as u64).saturating_add(TOP)
     }
 
-    // How high a bar is.
+    // Returns how high a bar is.
     fn bar(self) -> u64 {
         if self.lane < 20 {
             self.lane
@@ -70,14 +70,14 @@ impl Layout {
         }
     }
 
-    // The middle of a lane.
+    // Returns the middle of a lane.
     fn middle(self, lane: u32) -> u64 {
         self.top(lane).saturating_add(self.bar() / 2)
     }
 }
 
-/// The earliest plan as a drawing in SVG: a lane for each row, or, where there are more than 60, lanes of rows that follow each other; the ticks above, the
-/// chain and its links in a colour of their own, and below it the greedy plan, where there is one.
+/// Returns the earliest plan as a drawing in SVG: a lane for each row, or, where there are more than 60, lanes of rows that follow each other; the ticks above,
+/// the chain and its links in a colour of their own, and below it the greedy plan, where there is one.
 pub fn plan_drawing(
     alloc: Global,
     subject: &Subject,
@@ -118,7 +118,7 @@ pub fn plan_drawing(
     Ok(text)
 }
 
-// Where the bars of so many lanes stand.
+// Returns where the bars of the given number of lanes are.
 fn layout_of(subject: &Subject, greedy: Option<&Greedy>, named: bool, lanes: u64) -> Layout {
     let end = match greedy {
         Some(plan) => plan.bound.max(subject.span),
@@ -170,7 +170,7 @@ fn put_waits(
     text.push_str("\"/>\n")
 }
 
-// Puts the bars, those of the chain behind the others.
+// Puts the bars, those of the chain after the others.
 fn put_bars(
     alloc: Global,
     text: &mut String,
@@ -197,7 +197,7 @@ fn put_bars(
     text.push_str("</g>\n")
 }
 
-// Whether the bar of a row has a name that a link leads to.
+// Returns whether the bar of a row has a name that a link leads to.
 fn is_led_to(subject: &Subject, row: u32) -> bool {
     subject.count() <= MOST_IDS || (row as usize) < MOST_LISTED || subject.is_on_chain(row)
 }
@@ -274,7 +274,7 @@ fn put_row(
     Ok(())
 }
 
-/// Puts what is to be said of a row: its name, when it runs, its cowns, and what it waits for.
+/// Puts what must be said of a row: its name, when it runs, its cowns, and what it waits for.
 pub(crate) fn put_title(
     alloc: Global,
     text: &mut String,
@@ -335,7 +335,7 @@ fn put_spawns(
     text.push_str("\"/>\n")
 }
 
-// The bar of each row, at its number.
+// Returns the bar of each row, at its number.
 fn by_row(alloc: Global, bars: &[Bar]) -> Result<Vec<Bar>, AllocError> {
     let mut by_row = Vec::from_slice(alloc, bars)?;
     for bar in bars {
@@ -413,7 +413,7 @@ fn put_link(
     )
 }
 
-// Where a text of this length ends that stands to the left of a bar: before the line that tells how long its row waits, if there is room, else over it.
+// Returns where a text of this length ends that is to the left of a bar: before the line that says how long its row waits, if there is room, else over it.
 fn left_of(subject: &Subject, layout: Layout, bar: &Bar, length: u64) -> u64 {
     let spawned = subject
         .shown
@@ -445,7 +445,7 @@ pub(crate) fn put_cause(
     }
 }
 
-// Puts the names of rows beside their lanes.
+// Puts the names of rows with their lanes.
 fn put_names(
     alloc: Global,
     text: &mut String,

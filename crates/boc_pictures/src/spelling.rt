@@ -2,7 +2,7 @@
 
 use std::alloc::{AllocError, Global};
 
-// A byte that is printed as it is.
+// Returns whether a byte is printed as it is.
 fn is_printable(byte: u8) -> bool {
     (0x20..0x7f).contains(&byte)
 }
@@ -16,7 +16,7 @@ pub(crate) enum Spelling {
 }
 
 impl Spelling {
-    /// A name, at most so many bytes of it.
+    /// Returns a name, at most this many bytes of it.
     pub(crate) fn of(self, alloc: Global, name: &[u8], most: usize) -> Result<String, AllocError> {
         match self {
             Spelling::Text => plain(alloc, name, most),
@@ -26,7 +26,7 @@ impl Spelling {
     }
 }
 
-// A name in a text, at most so many bytes of it: what is left out is told by two dots, and a byte that can't be printed by `?`.
+// Returns a name in a text, at most this many bytes of it: what is left out is written as two dots, and a byte that can't be printed by `?`.
 fn plain(alloc: Global, name: &[u8], most: usize) -> Result<String, AllocError> {
     let mut text = String::new(alloc);
     let kept = if name.len() <= most {
@@ -47,7 +47,7 @@ fn plain(alloc: Global, name: &[u8], most: usize) -> Result<String, AllocError> 
     Ok(text)
 }
 
-// A name in XML, at most so many bytes of it: what means something there is written by its name.
+// Returns a name in XML, at most this many bytes of it: what means something there is written by its name.
 fn xml(alloc: Global, name: &[u8], most: usize) -> Result<String, AllocError> {
     let mut text = String::new(alloc);
     for character in plain(alloc, name, most)?.chars() {
@@ -62,7 +62,7 @@ fn xml(alloc: Global, name: &[u8], most: usize) -> Result<String, AllocError> {
     Ok(text)
 }
 
-// A name in a string of JSON: what means something there stands behind a backslash.
+// Returns a name in a string of JSON: what means something there comes after a backslash.
 fn json(alloc: Global, name: &[u8], most: usize) -> Result<String, AllocError> {
     let mut text = String::new(alloc);
     for character in plain(alloc, name, most)?.chars() {

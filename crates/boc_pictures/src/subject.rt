@@ -9,12 +9,11 @@ ghost use Rattle.boc_pictures.specs.Subjects.{AreShown, IsShownAs, IsSubject, th
 
 use crate::spelling::Spelling;
 use boc_names::{Names, text_at};
-use boc_order::{Earliest, spawned_at, waits_and_plan};
+use boc_order::{Earliest, handed, spawned_at, waits_and_plan};
 use boc_plans::chain::ChainStep;
 use boc_plans::sharing::{SeenRows, Sharing};
 use boc_program::short::HeldCown;
 use boc_runs::rows::Rows;
-use boc_why::handed;
 use std::alloc::{AllocError, Global};
 
 /// A row in the earliest plan. All numbers but rows are ticks.
@@ -46,7 +45,7 @@ pub struct Subject {
 }
 
 impl Subject {
-    /// These rows with these names, as plans see them. `AllocError` says that memory was refused, and then the rows and the names are gone.
+    /// Makes a subject of these rows with these names, as plans see them. `AllocError` says that memory was refused, and then the rows and the names are gone.
     pub fn of(
         alloc: Global,
         rows: Rows,
@@ -71,22 +70,22 @@ impl Subject {
         })
     }
 
-    /// How many rows there are.
+    /// Returns how many rows there are.
     pub fn count(&self) -> usize {
         self.shown.len()
     }
 
-    /// What a row is called.
+    /// Returns what a row is called.
     pub fn name(&self, row: u32) -> &[u8] {
         text_at(&self.names.rows, row as usize)
     }
 
-    /// What a cown is called.
+    /// Returns what a cown is called.
     pub fn cown_name(&self, cown: HeldCown) -> &[u8] {
         text_at(&self.names.cowns, cown as usize)
     }
 
-    /// The def of a row; the first one where it has none.
+    /// Returns the def of a row; the first one where it has none.
     pub fn def(&self, row: u32) -> usize {
         match self.names.defs.get(row as usize) {
             Some(def) => *def as usize,
@@ -94,7 +93,7 @@ impl Subject {
         }
     }
 
-    /// Whether the chain goes through a row.
+    /// Returns whether the chain goes through a row.
     pub fn is_on_chain(&self, row: u32) -> bool {
         match self.shown.get(row as usize) {
             Some(row) => row.through > 0,
@@ -102,7 +101,7 @@ impl Subject {
         }
     }
 
-    /// The cowns of a row.
+    /// Returns the cowns of a row.
     pub fn cowns(&self, row: u32) -> &[HeldCown] {
         match self.rows.as_slice().get(row as usize) {
             Some(row) => row.cowns.as_slice(),
@@ -136,7 +135,7 @@ impl Subject {
     }
 }
 
-// A row as it stands in a plan, of which the chain goes through so many ticks.
+// Returns a row as it is in a plan, of which the chain goes through this many ticks.
 fn shown_at(rows: &SeenRows, plan: &Earliest, row: usize, through: u32) -> Shown
     requires shape { IsRows rows.now }
     requires placed { IsPlanOf rows.now plan.now }
@@ -153,7 +152,7 @@ fn shown_at(rows: &SeenRows, plan: &Earliest, row: usize, through: u32) -> Shown
     }
 }
 
-// The rows of a plan, of each of which the chain goes through so many ticks.
+// Returns the rows of a plan, of each of which the chain goes through this many ticks.
 fn shown_of(
     alloc: Global,
     rows: &SeenRows,
@@ -174,7 +173,7 @@ fn shown_of(
     Ok(shown)
 }
 
-// How many ticks of each row the chain goes through.
+// Returns how many ticks of each row the chain goes through.
 fn through_of(alloc: Global, rows: &SeenRows, steps: &[ChainStep]) -> Result<Vec<u32>, AllocError>
     requires { IsChain rows.now steps.now }
     ensures whole { IfOk result (λ through. length through.items ≡ length rows.now) }

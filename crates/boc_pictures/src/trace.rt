@@ -16,8 +16,8 @@ const GREEDY: u32 = 2;
 // The most bytes of a name.
 const NAME_BYTES: usize = 160;
 
-/// The earliest plan, and the greedy plan where there is one, as events of a trace in JSON: a process for each plan, a thread for each lane or worker, an
-/// event for each row from its start to its end, and arrows along the chain. A tick is a microsecond.
+/// Returns the earliest plan, and the greedy plan where there is one, as events of a trace in JSON: a process for each plan, a thread for each lane or worker,
+/// an event for each row from its start to its end, and arrows along the chain. A tick is a microsecond.
 pub fn trace_text(
     alloc: Global,
     subject: &Subject,
@@ -118,7 +118,7 @@ fn put_greedy(
     Ok(())
 }
 
-// The lane of each row.
+// Returns the lane of each row.
 fn lanes_of(alloc: Global, subject: &Subject, bars: &[Bar]) -> Result<Vec<u32>, AllocError> {
     let mut lanes = Vec::new(alloc);
     for _ in 0..subject.count() {

@@ -6,7 +6,7 @@ use crate::subject::Subject;
 use boc_greedy::Greedy;
 use std::alloc::{AllocError, Global};
 
-/// The greedy plan, a line for each worker, in so many columns: a letter for each def, and what part of the plan the worker is busy.
+/// Returns the greedy plan, a line for each worker, in the given number of columns: a letter for each def, and what part of the plan the worker is busy.
 pub fn workers_text(
     alloc: Global,
     subject: &Subject,

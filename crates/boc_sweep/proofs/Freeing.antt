@@ -1,15 +1,14 @@
 -- Rows are placed one after another where one cown orders nobody: that is the earliest plan of the rows without that cown.
-use Rattle.std.proofs.Common.{◌≡◌, ◌≢◌, ◌⊎◌, ℕ, zero, suc, ◌+◌, ◌*◌, ◌<◌, ◌≤◌, max, Bool, true, false, cond, not, List, [], ◌∷◌, ◌++◌, length, get_or, inl, inr}
+use Rattle.std.proofs.Common.{◌≡◌, ◌≢◌, ◌⊎◌, ℕ, zero, suc, ◌+◌, ◌*◌, ◌<◌, ◌≤◌, max, Bool, true, false, cond, List, [], ◌∷◌, ◌++◌, length, get_or, inl, inr}
 use Rattle.std.proofs.Common.{◌-◌, ◌↔◌, IsTrue, Some, take, drop, refl, ap, sym, ◌∙◌, subst, true≢false, arith}
-use Rattle.std.specs.Prelude.{slice_index, slice_index_or, slice_get, slice_set, ◌==◌, vec_capacity}
+use Rattle.std.specs.Prelude.{slice_index, slice_index_or, slice_get, slice_set, vec_capacity}
 use Rattle.std.specs.List.{Contains}
 use Rattle.std.proofs.lemmas.List.Sums.{sum_by_more}
 use Rattle.std.proofs.lemmas.Option.{slice_get-get_or}
 use Rattle.std.proofs.lemmas.Bool.{cases_lt, cases_eq}
-use Rattle.std.proofs.lemmas.Bool.Decides.{nat_tests}
 use Rattle.std.proofs.lemmas.List.{get_or_default, get_or-set_same, get_or-set_other, length-set, get_or_append_left}
 use Rattle.std.proofs.lemmas.List.{get_or_push, length_push, length-drop, get_or-drop, take_all}
-use Rattle.std.proofs.lemmas.List.Elements.{All-filter, filter_passes, Contains-get_or}
+use Rattle.std.proofs.lemmas.List.Elements.{Contains-get_or}
 use Rattle.boc_program.specs.Cowns.{others}
 use Rattle.boc_program.specs.declared.limits.TheConstants.{MOST_COWNS, MOST_TICKS}
 use Rattle.boc_runs.specs.declared.rows.Row.{Row}
@@ -18,6 +17,7 @@ use Rattle.boc_runs.specs.Changes.{without}
 use Rattle.boc_runs.proofs.Freeing.{length-without, parent_of-without, offset_of-without, ticks_of-without, cowns_of-without, written_of-without}
 use Rattle.boc_plans.specs.Plans.{start_of, end_of, IsChild, ConflictOn, Ordered, Keeps, IsEarliest}
 use Rattle.boc_plans.specs.Greedy.{IsSpan}
+use Rattle.boc_order.proofs.LeftOut.{kept, was}
 use Rattle.boc_order.proofs.Near.{writes_own}
 use Rattle.boc_sweep.specs.declared.freed.Placing.{Placing}
 use Rattle.boc_sweep.specs.Freed.{OrderedBut, IsStartBut, ArePlacedBut, IsLatestAmong, AreHeldBut, IsPlacedIn, HasPlaced, HasWaited, AreRaised, IsFreed}
@@ -566,36 +566,6 @@ module _ (rows : List Row) where
       omega (arith, is, t.whole, up)
 
 -- ---- the rows without the cown
-
-pub passes : (x cown : ℕ) → x ≢ cown → not (x == cown) ≡ true
-passes x cown ne = grind (arith, nat_tests)
-
-other_one : (x cown : ℕ) → not (x == cown) ≡ true → x ≢ cown
-other_one x cown t = λ e. (let s : not (x == cown) ≡ false = grind (arith, nat_tests) in true≢false (sym t ∙ s))
-
-after_one : (b : Bool) (y : ℕ) (l : List ℕ) (x : ℕ) → Contains l x → Contains (cond b (y ∷ l) l) x
-after_one true y l x m = (suc m.0, omega (arith, m.1), m.2)
-after_one false y l x m = m
-
--- another cown stays where one is taken out
-kept_at : (cown : ℕ) (xs : List ℕ) (x k : ℕ) → x ≢ cown → k < length xs → get_or xs k x ≡ x → Contains (others cown xs) x
-kept_at cown [] x k ne lt e = absurd (omega (arith, lt))
-kept_at cown (y ∷ ys) x zero ne lt e =
-    let pass : not (y == cown) ≡ true = rw e (passes x cown ne) in
-    rw pass (0, omega arith, e)
-kept_at cown (y ∷ ys) x (suc k) ne lt e =
-    after_one (not (y == cown)) y (others cown ys) x (kept_at cown ys x k ne (omega (arith, lt)) e)
-
-kept : (cown : ℕ) (xs : List ℕ) (x : ℕ) → x ≢ cown → Contains xs x → Contains (others cown xs) x
-kept cown xs x ne (k, lt, e) = kept_at cown xs x k ne lt e
-
--- and what stays is another one
-was : (cown : ℕ) (xs : List ℕ) (x : ℕ) → Contains (others cown xs) x → (x ≢ cown) × Contains xs x
-was cown xs x (k, lt, e) =
-    let test : ℕ → Bool = λ (c : ℕ). not (c == cown) in
-    let pass : test (get_or (others cown xs) k x) ≡ true = filter_passes test xs k x lt in
-    let own : Contains xs (get_or (others cown xs) k x) = All-filter test (λ (c : ℕ). Contains xs c) xs (λ j d h. Contains-get_or xs j d h) k x lt in
-    (other_one x cown (subst (λ (c : ℕ). test c ≡ true) e pass), subst (Contains xs) e own)
 
 module _ (cown : ℕ) (rows : List Row) where
   still_ordered : (a b : ℕ) → OrderedBut cown rows a b → Ordered (without cown rows) a b

@@ -17,7 +17,7 @@ use Rattle.boc_plans.specs.Edits.{IsCownSweep}
 use Rattle.boc_plans.proofs.Numbered.{range_long, range_at}
 use Rattle.boc_sweep.specs.declared.lanes.TheConstants.{LANES}
 use Rattle.boc_sweep.specs.Passes.{HaveNot, TellHad, StandForAll, AreSpansOfGroup, AreSpansWithout, tick_at}
-use Rattle.boc_sweep.proofs.Freeing.{passes}
+use Rattle.boc_order.proofs.LeftOut.{passes}
 
 others_none : (cown : ℕ) (xs : List ℕ) → (Contains xs cown → ⊥) → others cown xs ≡ xs
 others_none cown [] none = refl

@@ -1,4 +1,4 @@
-// The spans that a run would have if one cown after another ordered nobody.
+// The spans that a run would have if one cown after another imposed no order.
 
 ghost use Rattle.std.specs.Prelude.{◌≡◌, ℕ, ◌<◌, ◌≤◌, ◌+◌, ◌*◌, length, if◌then◌else◌, All, IfOk, slice_index, Contains};
 ghost use Rattle.std.specs.List.{AllZip};
@@ -18,7 +18,7 @@ use rayon::prelude::*;
 use std::alloc::{AllocError, Global};
 use std::thread::Threads;
 
-// The rows so far, as they are placed in each lane where the lane's own cown orders nobody.
+// The rows so far, as they are placed in each lane where the lane's own cown imposes no order.
 #[derive(Drop)]
 struct Placing {
     // The cown of each lane.
@@ -35,7 +35,7 @@ struct Placing {
     passed: usize,
 }
 
-// Tells behind the rows before it for each cown of a row, in their order, whether the row wrote it.
+// Appends for each cown of a row, in their order, whether the row wrote it.
 fn tell_written(rows: &SeenRows, row: usize, written: &mut Vec<bool>) -> Result<(), AllocError>
     requires shape { IsRows rows.now }
     requires there { row < length rows.now }
@@ -48,7 +48,7 @@ fn tell_written(rows: &SeenRows, row: usize, written: &mut Vec<bool>) -> Result<
     Ok(())
 }
 
-// For each cown of each row, in their order, whether the row wrote it. `AllocError` says that memory was refused.
+// Returns for each cown of each row, in their order, whether the row wrote it. `AllocError` says that memory was refused.
 fn all_written(alloc: Global, rows: &SeenRows) -> Result<Vec<bool>, AllocError>
     requires shape { IsRows rows.now }
     ensures { IfOk result (λ written. TellWritten rows.now (length rows.now) written.items) }
@@ -60,7 +60,7 @@ fn all_written(alloc: Global, rows: &SeenRows) -> Result<Vec<bool>, AllocError>
     Ok(written)
 }
 
-// A row needs its cowns until it ends. Those that it wrote nobody else needs by then.
+// A row needs its cowns until it ends. Those that it wrote no other row needs by then.
 fn note_end(
     rows: &SeenRows,
     row: usize,
@@ -92,7 +92,7 @@ fn note_end(
     }
 }
 
-// In each lane the lane's own cown orders nobody, whoever needed it.
+// In each lane the lane's own cown imposes no order, whichever row needed it.
 fn set_free(cowns: &[HeldCown; LANES], ends: &mut [Ticks])
     requires { length ends.old ≡ MOST_COWNS }
     ensures { (lane : ℕ) → lane < LANES → IsFreed (slice_index cowns.now lane) (in_lane lane ends.old) (in_lane lane ends.new) }
@@ -104,7 +104,7 @@ fn set_free(cowns: &[HeldCown; LANES], ends: &mut [Ticks])
 }
 
 impl Placing {
-    // None of these rows is placed, and there is room for them. `AllocError` says that memory was refused.
+    // None of these rows is placed, and there is space for them. `AllocError` says that memory was refused.
     fn new(alloc: Global, rows: &SeenRows, cowns: [HeldCown; LANES]) -> Result<Placing, AllocError>
         ensures placed { IfOk result (HasPlaced rows.now 0) }
         ensures own { IfOk result (λ placing. placing.cowns ≡ cowns) }
@@ -119,7 +119,7 @@ impl Placing {
         })
     }
 
-    // The latest ends of a row before that a row waits for by one of its cowns: to write it, of those that need it, else of those that
+    // Returns the latest ends of a row before that a row waits for by one of its cowns: to write it, of those that need it, else of those that
     // wrote it.
     fn latest_on(&self, cown: HeldCown, writes: bool) -> &Ticks
         requires held { length self.now.held.items ≡ MOST_COWNS }
@@ -133,7 +133,7 @@ impl Placing {
         if writes { held } else { wrote }
     }
 
-    // The ticks at which the next row is spawned.
+    // Returns the ticks at which the next row is spawned.
     fn spawn_of(&self, rows: &SeenRows, row: usize) -> Ticks
         requires shape { IsRows rows.now }
         requires there { row < length rows.now }
@@ -149,7 +149,7 @@ impl Placing {
         }
     }
 
-    // The ticks at which the next row starts.
+    // Returns the ticks at which the next row starts.
     fn start_of(&self, rows: &SeenRows, row: usize, written: &[bool]) -> Ticks
         requires shape { IsRows rows.now }
         requires there { row < length rows.now }
@@ -186,7 +186,7 @@ impl Placing {
     }
 }
 
-// The spans that the rows would have if these cowns ordered nobody, one of them in each lane.
+// Returns the spans that the rows would have if these cowns imposed no order, one of them in each lane.
 fn spans_without(
     alloc: Global,
     rows: &SeenRows,
@@ -204,7 +204,7 @@ fn spans_without(
     Ok(placing.latest)
 }
 
-// The cowns of one group, one in each lane, and the last one of all once more where no other is left.
+// Returns the cowns of one group, one in each lane, and the last one of all once more where no other is left.
 fn group_of(cowns: &[HeldCown], group: usize) -> [HeldCown; LANES]
     requires { group * LANES < length cowns.now }
     ensures { (lane : ℕ) → lane < LANES → group * LANES + lane < length cowns.now → slice_index result lane ≡ slice_index cowns.now (group * LANES + lane) }
@@ -219,7 +219,7 @@ fn group_of(cowns: &[HeldCown], group: usize) -> [HeldCown; LANES]
     lanes
 }
 
-// The spans that the rows would have if one of these cowns after another ordered nobody. Threads share out the groups.
+// Returns the spans that the rows would have if one of these cowns after another imposed no order. Threads share out the groups.
 fn group_spans(
     rt: &(impl Threads + Sync),
     alloc: Global,
@@ -243,7 +243,7 @@ fn group_spans(
         .collect::<Result<Vec<Ticks>, AllocError>>(rt, alloc)?
 }
 
-// What stands at these places, where lane stands behind lane and group behind group.
+// Returns what is at these places, where lane comes after lane and group after group.
 fn all_at(alloc: Global, places: &[usize], found: &[Ticks]) -> Result<Vec<u64>, AllocError>
     requires { All (λ place. place < length found.now * LANES) places.now }
     ensures { IfOk result (λ spans. AllZip (λ place span. span ≡ tick_at found.now place) places.now spans.items) }
@@ -255,7 +255,7 @@ fn all_at(alloc: Global, places: &[usize], found: &[Ticks]) -> Result<Vec<u64>, 
     Ok(spans)
 }
 
-/// For each of so many cowns the span that the rows would have if that cown ordered nobody. `AllocError` says that memory was
+/// Returns for each of the given number of cowns the span that the rows would have if that cown imposed no order. `AllocError` says that memory was
 /// refused.
 ///
 /// A pass over the rows and their cowns is for four cowns, and takes memory that grows with the number of rows; the cowns that no row has

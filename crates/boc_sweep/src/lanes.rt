@@ -8,7 +8,7 @@ pub(crate) const LANES: usize = 4;
 // A tick in each lane.
 pub(crate) type Ticks = [u64; LANES];
 
-// In each lane the later one of two ticks.
+// Returns in each lane the later one of two ticks.
 pub(crate) fn later(ticks: &Ticks, others: &Ticks) -> Ticks
     ensures { (lane : ℕ) → lane < LANES → slice_index result lane ≡ max (slice_index ticks.now lane) (slice_index others.now lane) }
 {
@@ -19,7 +19,7 @@ pub(crate) fn later(ticks: &Ticks, others: &Ticks) -> Ticks
     latest
 }
 
-// In each lane the tick that is so many behind.
+// Returns in each lane the tick that is this many later.
 pub(crate) fn moved_on(ticks: &Ticks, more: u32) -> Ticks
     requires { (lane : ℕ) → lane < LANES → slice_index ticks.now lane + more < 2 ^ 64 }
     ensures { (lane : ℕ) → lane < LANES → slice_index result lane ≡ slice_index ticks.now lane + more }

@@ -7,7 +7,7 @@ ghost use Rattle.boc_sweep.specs.Lasts.{HasLasts};
 use boc_runs::rows::Row;
 use std::alloc::{AllocError, Global};
 
-/// The offset of each row's last child, and 0 for a row without one. `AllocError` says that memory was refused.
+/// Returns the offset of each row's last child, and 0 for a row without one. `AllocError` says that memory was refused.
 pub fn last_children(alloc: Global, rows: &[Row]) -> Result<Vec<u32>, AllocError>
     requires { IsRows rows.now }
     ensures { IfOk result (λ lasts. HasLasts rows.now lasts.items) }
@@ -19,7 +19,7 @@ pub fn last_children(alloc: Global, rows: &[Row]) -> Result<Vec<u32>, AllocError
     Ok(lasts)
 }
 
-/// The least ticks that a row can take whose last child has this offset.
+/// Returns the fewest ticks that a row can take whose last child has this offset.
 pub fn least_ticks(last: u32) -> u32
     ensures { result ≡ max 1 last }
 {

@@ -1,4 +1,4 @@
-//! The spans of a run with one row after another changed, for all rows in one pass: each row at the least ticks that it
+//! The spans of a run with one row after another changed, for all rows in one pass: each row at the fewest ticks that it
 //! can take, or spawned as early as it can be.
 //!
 //! A row whose ticks change is a cut: each way from main's start to the end of all leads over it, by the row itself, by a
@@ -6,10 +6,10 @@
 //! from its end on is a tail, found from the last row back. Neither changes with the row's ticks, so the span is the
 //! weight of the heaviest way over the cut.
 //!
-//! With a row's spawn the cut lies just before the row's start: the row's own links are behind it, and the links to the
+//! With a row's spawn the cut is just before the row's start: the row's own links are after it, and the links to the
 //! row's start lead over it.
 //!
-//! The spans that the rows would have if one cown after another ordered nobody take a pass over the rows for every four cowns: a row is placed
+//! The spans that the rows would have if one cown after another imposed no order take a pass over the rows for every four cowns: a row is placed
 //! by the latest ends of those before it that need its other cowns. Cowns that no row has have one span.
 #![tactic(auto)]
 

@@ -18,7 +18,7 @@ pub(crate) struct Passes {
     pub(crate) places: Vec<usize>,
 }
 
-// Tells of each cown of a row that a row has it.
+// Reports on each cown of a row that a row has it.
 fn tell_had(rows: &SeenRows, row: usize, had: &mut [bool])
     requires shape { IsRows rows.now }
     requires there { row < length rows.now }
@@ -32,7 +32,7 @@ fn tell_had(rows: &SeenRows, row: usize, had: &mut [bool])
     }
 }
 
-// For each cown whether a row has it. `AllocError` says that memory was refused.
+// Returns for each cown whether a row has it. `AllocError` says that memory was refused.
 fn all_had(alloc: Global, rows: &SeenRows) -> Result<Vec<bool>, AllocError>
     requires { IsRows rows.now }
     ensures whole { IfOk result (λ had. length had.items ≡ MOST_COWNS) }
@@ -46,7 +46,7 @@ fn all_had(alloc: Global, rows: &SeenRows) -> Result<Vec<bool>, AllocError>
 }
 
 impl Passes {
-    // What has to be left out for so many cowns. `AllocError` says that memory was refused.
+    // Returns what has to be left out for the given number of cowns. `AllocError` says that memory was refused.
     pub(crate) fn new(alloc: Global, rows: &SeenRows, count: usize) -> Result<Passes, AllocError>
         requires shape { IsRows rows.now }
         requires few { count ≤ MOST_COWNS }

@@ -21,7 +21,7 @@ struct SpawnParts<'a> {
     plan: &'a Earliest,
     // The heaviest ways to the end of all.
     tails: &'a Tails,
-    // The offset of each row's elder sibling.
+    // The offset of each row's earlier sibling.
     elders: &'a [u32],
     // The heaviest way over the cut before each row's start by a spawn or a wait of another row.
     tops: &'a [u64],
@@ -29,7 +29,7 @@ struct SpawnParts<'a> {
     latest: &'a [u64],
 }
 
-// For each row the offset of its elder sibling, and 0 for a row without one.
+// Returns for each row the offset of its earlier sibling, and 0 for a row without one.
 fn elder_offsets(alloc: Global, rows: &SeenRows) -> Result<Vec<u32>, AllocError>
     requires { IsRows rows.now }
     ensures { IfOk result (λ elders. HasElders rows.now elders.items) }
@@ -44,7 +44,7 @@ fn elder_offsets(alloc: Global, rows: &SeenRows) -> Result<Vec<u32>, AllocError>
     Ok(elders)
 }
 
-// The tick by which a spawn has come and the rows that are waited for are over.
+// Returns the tick by which a spawn has come and the rows that are waited for have ended.
 fn ready_at(spawned: u64, waits: &[u32], ends: &[u64]) -> u64
     requires { (a : ℕ) → Contains waits.now a → a < length ends.now }
     ensures { IsReadyAt spawned waits.now ends.now result }
@@ -56,7 +56,7 @@ fn ready_at(spawned: u64, waits: &[u32], ends: &[u64]) -> u64
     tick
 }
 
-// The span with one row spawned as early as it can be.
+// Returns the span with one row spawned as early as it can be.
 fn span_of(rows: &SeenRows, parts: SpawnParts<'_>, row: usize, waits: &[u32]) -> u64
     requires child { 0 < row }
     requires there { row < length rows.now }
@@ -77,7 +77,7 @@ fn span_of(rows: &SeenRows, parts: SpawnParts<'_>, row: usize, waits: &[u32]) ->
     own.max(tops[row]).max(latest[row])
 }
 
-// The spans.
+// Returns the spans.
 fn spans(
     alloc: Global,
     rows: &SeenRows,
@@ -95,11 +95,11 @@ fn spans(
     Ok(spans)
 }
 
-/// For each row but main the span that the rows would have if that row alone were spawned as early as it can be, from the
-/// earliest plan of the rows: one tick after its elder sibling's offset, or at its parent's tick 1. `AllocError` says that
+/// Returns for each row but main the span that the rows would have if that row alone were spawned as early as it can be, from the
+/// earliest plan of the rows: one tick after its earlier sibling's offset, or at its parent's tick 1. `AllocError` says that
 /// memory was refused.
 ///
-/// It takes memory that grows with the number of rows and their cowns, and that much time with its logarithm beside.
+/// It takes memory that grows with the number of rows and their cowns, and that much time with its logarithm too.
 pub fn spawn_sweep(
     alloc: Global,
     rows: &SeenRows,

@@ -20,12 +20,12 @@ use rayon::prelude::*;
 use std::alloc::{AllocError, Global};
 use std::thread::Threads;
 
-/// Where the cut of a row lies.
+/// Where the cut of a row is.
 #[derive(Clone, Copy)]
 pub enum Cut {
     /// Just before the row's start.
     Before,
-    /// Just behind the row's start.
+    /// Just after the row's start.
     Behind,
 }
 
@@ -71,7 +71,7 @@ fn push_waits(
     Ok(())
 }
 
-// The first row over whose cut a spawn by this row leads.
+// Returns the first row over whose cut a spawn by this row leads.
 fn first_cut(cut: Cut, parent: u32) -> u32
     requires { parent < MOST_ROWS }
     ensures { result ≡ first_cut cut parent }
@@ -111,7 +111,7 @@ fn push_links(
     Ok(())
 }
 
-/// The links that lead over the cuts of rows, as stretches of those rows.
+/// Returns the links that lead over the cuts of rows, as stretches of those rows.
 pub fn all_stretches(
     alloc: Global,
     rows: &SeenRows,
@@ -133,7 +133,7 @@ pub fn all_stretches(
     Ok(stretches)
 }
 
-/// For each row the latest end among the rows before it.
+/// Returns for each row the latest end among the rows before it.
 pub fn latest_ends(alloc: Global, rows: &SeenRows, plan: &Earliest) -> Result<Vec<u64>, AllocError>
     requires { IsPlanOf rows.now plan.now }
     ensures { IfOk result (λ latest. HasLatestEnds rows.now plan.now.starts.items latest.items) }
@@ -147,7 +147,7 @@ pub fn latest_ends(alloc: Global, rows: &SeenRows, plan: &Earliest) -> Result<Ve
     Ok(list)
 }
 
-// The span with one row at its least ticks.
+// Returns the span with one row at its least ticks.
 fn span_of(rows: &SeenRows, parts: Parts<'_>, row: usize) -> u64
     requires there { row < length rows.now }
     requires parts { AreParts rows.now parts }
@@ -164,7 +164,7 @@ fn span_of(rows: &SeenRows, parts: Parts<'_>, row: usize) -> u64
     own.max(tops[row]).max(latest[row])
 }
 
-// The spans. Threads share out the rows where these are enough for two pieces.
+// Returns the spans. Threads share out the rows where these are enough for two pieces.
 fn spans(
     rt: &(impl Threads + Sync),
     alloc: Global,
@@ -186,11 +186,11 @@ fn spans(
         .collect(rt, alloc)
 }
 
-/// For each row the span that the rows would have if that row alone took the least ticks that it can, from the earliest
+/// Returns for each row the span that the rows would have if that row alone took the fewest ticks that it can, from the earliest
 /// plan of the rows and the offsets of their last children. `AllocError` says that memory was refused.
 ///
-/// It takes memory that grows with the number of rows and their cowns, and that much time with its logarithm beside. What the spans are read
-/// from is found by one thread; from 32,766 rows on, threads find the spans, at most four. What is answered is the same.
+/// It takes memory that grows with the number of rows and their cowns, and that much time with its logarithm too. What the spans are read
+/// from is found on one thread; from 32,766 rows on, threads find the spans, at most four. What is answered is the same.
 pub fn sweep(
     rt: &(impl Threads + Sync),
     alloc: Global,

@@ -50,7 +50,7 @@ fn pass_back(rows: &SeenRows, row: usize, waits: &[u32], starts: &mut [u64], end
     raise_ends(waits, tail, ends);
 }
 
-/// The heaviest ways from the rows' starts and ends to the end of all.
+/// Returns the heaviest ways from the rows' starts and ends to the end of all.
 pub fn all_tails(alloc: Global, rows: &SeenRows, waits: &Links) -> Result<Tails, AllocError>
     requires shape { IsRows rows.now }
     requires waits { AreWaits rows.now waits.now }

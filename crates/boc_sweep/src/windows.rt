@@ -12,13 +12,13 @@ use std::alloc::{AllocError, Global};
 pub struct Stretch {
     /// The first place.
     pub low: u32,
-    /// The place behind the last.
+    /// The place after the last.
     pub high: u32,
     /// The value.
     pub value: u64,
 }
 
-// Each value becomes the greater of itself and the one that stands so many places before it.
+// Each value becomes the greater of itself and the one that is this many places before it.
 fn halve(values: &mut [u64], step: usize)
     requires { 0 < step }
     ensures len { length values.new ≡ length values.old }
@@ -56,7 +56,7 @@ fn cover(values: &mut [u64], stretches: &[Stretch], size: usize)
     }
 }
 
-// Windows of this size in place of those that are twice as large, which cover the stretches of this length too.
+// Windows of this size instead of those that are twice as large, which cover the stretches of this length too.
 fn split(values: &mut [u64], stretches: &[Stretch], size: usize)
     requires some { 0 < size }
     requires inside { (r : Stretch) → Contains stretches.now r → r.high ≤ length values.old }
@@ -96,7 +96,7 @@ fn no_lists(alloc: Global) -> Result<Vec<Vec<Stretch>>, AllocError>
     Ok(lists)
 }
 
-// The stretches by their length: at place k those of 2 ^ k places and more, but of fewer than twice as many.
+// Returns the stretches by their length: at place k those of 2 ^ k places and more, but of fewer than twice as many.
 fn by_length(alloc: Global, stretches: &[Stretch]) -> Result<Vec<Vec<Stretch>>, AllocError>
     requires { (r : Stretch) → Contains stretches.now r → r.high ≤ MOST_ROWS }
     ensures count { IfOk result (λ lists. length lists.items ≡ LENGTHS) }
@@ -112,7 +112,7 @@ fn by_length(alloc: Global, stretches: &[Stretch]) -> Result<Vec<Vec<Stretch>>, 
     Ok(lists)
 }
 
-/// For each of so many places the greatest value of the stretches that hold it, and 0 where there is none.
+/// Returns for each of the given number of places the greatest value of the stretches that hold it, and 0 where there is none.
 pub fn all_tops(alloc: Global, stretches: &[Stretch], count: usize) -> Result<Vec<u64>, AllocError>
     requires inside { (r : Stretch) → Contains stretches.now r → r.high ≤ count }
     requires few { count ≤ MOST_ROWS }

@@ -9,7 +9,7 @@ ghost use Rattle.boc_whatif.specs.Freed.{AreEndsWithout};
 
 use boc_greedy::{AnyCown, greedy_end_without};
 use boc_plans::sharing::SeenRows;
-use boc_plans::workers::Workers;
+use boc_program::count::Workers;
 use boc_program::limits::MOST_COWNS;
 use boc_program::short::HeldCown;
 use boc_progress::Progress;
@@ -17,10 +17,10 @@ use rayon::prelude::*;
 use std::alloc::{AllocError, Global};
 use std::thread::Threads;
 
-// After so many cowns, which threads share out, it is told how far the sweep is.
+// After this many cowns, which threads share out, it is reported how far the sweep is.
 const STRETCH: usize = 16;
 
-// The ends for the cowns of a stretch, from one on, up to another one. Threads share them out.
+// Returns the ends for the cowns of a stretch, from one on, up to another one. Threads share them out.
 fn ends_between(
     rt: &(impl Threads + Sync),
     alloc: Global,
@@ -48,8 +48,8 @@ fn ends_between(
         .collect::<Result<Vec<u64>, AllocError>>(rt, alloc)?
 }
 
-/// For each of so many cowns the end of the greedy plan for so many workers of the rows without it. After each stretch of cowns it is told
-/// how many of them are done. `AllocError` says that memory was refused.
+/// Returns for each of the given number of cowns the end of the greedy plan for the given number of workers of the rows without it. After each stretch of cowns
+/// it is reported how many of them are done. `AllocError` says that memory was refused.
 ///
 /// Each cown takes as much time as a plan of the rows from the start. Which of them wait for which, and for whose sake, is found once.
 pub fn cown_ends(

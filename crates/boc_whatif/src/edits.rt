@@ -26,7 +26,7 @@ pub struct Unfit {
     pub fault: EditFault,
 }
 
-// Whether a row other than main can be spawned at this tick of its parent.
+// Returns whether a row other than main can be spawned at this tick of its parent.
 fn can_stand_at(rows: &[Row], siblings: &Siblings, row: usize, offset: u32) -> bool
     requires shape { IsRows rows.now }
     requires siblings { AreSiblings rows.now siblings.now }
@@ -35,7 +35,7 @@ fn can_stand_at(rows: &[Row], siblings: &Siblings, row: usize, offset: u32) -> b
     ensures { IsTrue result ↔ FitsAt rows.now row offset }
 {
     let parent = rows[row].parent as usize;
-    // Main, whose offset is 0, stands for the elder sibling of a row without one.
+    // Main, whose offset is 0, stands for the earlier sibling of a row without one.
     let elder = siblings.elder(row);
     if offset <= rows[elder].offset || rows[parent].ticks < offset {
         return false;
@@ -44,7 +44,7 @@ fn can_stand_at(rows: &[Row], siblings: &Siblings, row: usize, offset: u32) -> b
     younger >= rows.len() || offset < rows[younger].offset
 }
 
-// The offset of a row's last child, and 0 where it has none.
+// Returns the offset of a row's last child, and 0 where it has none.
 fn last_child(rows: &[Row], siblings: &Siblings, parent: usize) -> u32
     requires shape { IsRows rows.now }
     requires siblings { AreSiblings rows.now siblings.now }
@@ -55,7 +55,7 @@ fn last_child(rows: &[Row], siblings: &Siblings, parent: usize) -> u32
     rows[siblings.last_child(parent)].offset
 }
 
-// Has a row take so many ticks.
+// Has a row take this many ticks.
 fn set_ticks(rows: &mut Rows, lasts: &[u32], row: u32, ticks: u32) -> Result<(), EditFault>
     requires there { row < length rows.old }
     requires lasts { HasLasts rows.old lasts.now }
@@ -150,8 +150,8 @@ pub fn make(
     }
 }
 
-/// Makes the edits, one after the other, up to the first that the rows can't take. Answers the least row that was edited beside
-/// it; where none was, the number of rows.
+/// Makes the edits, one after the other, up to the first that the rows can't take. Answers the lowest row that was edited next to it;
+/// where none was, the number of rows.
 pub fn make_all(
     rows: &mut Rows,
     lasts: &mut [u32],

@@ -9,7 +9,7 @@ ghost use Rattle.boc_plans.specs.declared.sharing.Sharing.{Sharing};
 ghost use Rattle.boc_plans.specs.Edits.{IsChanged};
 ghost use Rattle.boc_plans.specs.Seen.{seen};
 
-/// Rows that are changed are seen as the rows that are seen are changed.
+/// Proves that rows that are changed are seen as the rows that are seen are changed.
 pub fn changes_are_seen()
     ensures ticks { (sharing : Sharing) (rows : List Row) (row ticks : ℕ) → seen sharing (edited rows row ticks) ≡ edited (seen sharing rows) row ticks }
     ensures offset { (sharing : Sharing) (rows : List Row) (row offset : ℕ) → seen sharing (moved rows row offset) ≡ moved (seen sharing rows) row offset }
@@ -18,7 +18,7 @@ pub fn changes_are_seen()
         → IsScaled (seen sharing rows) row over under (seen sharing after) }
 {}
 
-/// A row changes without a cown as it does with it.
+/// Proves that a row changes without a cown as it does with it.
 pub fn cowns_do_not_matter_to_changes()
     ensures { (rows : List Row) (cown row : ℕ) (change : Change) (after : List Row) → IsChanged rows row change after
         → IsChanged (without cown rows) row change (without cown after) }

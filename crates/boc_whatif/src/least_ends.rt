@@ -14,7 +14,7 @@ ghost use Rattle.boc_whatif.specs.Pieces.{AreEnds, IsPiece, ArePieces};
 use boc_greedy::{Consequences, Course, course_to, end_from, greedy_over};
 use boc_order::{Links, work};
 use boc_plans::sharing::{SeenRows, Sharing};
-use boc_plans::workers::Workers;
+use boc_program::count::Workers;
 use boc_progress::Progress;
 use boc_runs::rows::Rows;
 use boc_sweep::least_ticks;
@@ -22,10 +22,10 @@ use rayon::prelude::*;
 use std::alloc::{AllocError, Global};
 use std::thread::Threads;
 
-// After so many plans it is told how far the sweep is.
+// After this many plans it is reported how far the sweep is.
 const STRETCH: u32 = 1024;
 
-// So many neighbouring rows make a piece of a stretch: their plans go on from one course, which goes on from row to row. Each stretch but the
+// This many neighbouring rows make a piece of a stretch: their plans go on from one course, which goes on from row to row. Each stretch but the
 // last has 64 pieces at least, which threads share out.
 const PIECE: usize = 16;
 
@@ -45,7 +45,7 @@ pub struct Parts<'a> {
     end: u64,
 }
 
-// The least ticks of a row that takes more. The plan of one that takes no more is that of the rows as they are.
+// Returns the fewest ticks of a row that takes more. The plan of one that takes no more is that of the rows as they are.
 fn fewer_ticks(parts: &Parts<'_>, row: usize) -> Option<u32>
     requires there { row < length parts.now.rows.now }
     requires parts { AreParts parts.now }
@@ -62,7 +62,7 @@ fn fewer_ticks(parts: &Parts<'_>, row: usize) -> Option<u32>
     }
 }
 
-// The end of the plan with one row at its least ticks. It is known where the row takes no more than these. Else the plan goes on from the
+// Returns the end of the plan with one row at its least ticks. It is known where the row takes no more than these. Else the plan goes on from the
 // course, which is that of the rows as they are. No row is copied.
 fn least_end(
     alloc: Global,
@@ -96,7 +96,7 @@ fn least_end(
     }
 }
 
-// The first tick at which one of these rows would be over with its least ticks, of those that take more. Up to there the plan with any of
+// Returns the first tick at which one of these rows would be over with its least ticks, of those that take more. Up to there the plan with any of
 // them at its least ticks is that of the rows as they are.
 fn first_over(parts: &Parts<'_>, from: usize, to: usize) -> Option<u64>
     requires there { to ≤ length parts.now.rows.now }
@@ -114,8 +114,8 @@ fn first_over(parts: &Parts<'_>, from: usize, to: usize) -> Option<u64>
     first
 }
 
-// The ends for the rows from one on, up to another one, whose plans go on from a course. Before each row the course goes on itself, up to
-// where the plan of that row or of one behind it may differ.
+// Returns the ends for the rows from one on, up to another one, whose plans go on from a course. Before each row the course goes on itself, up to
+// where the plan of that row or of one after it may differ.
 fn ends_along(
     alloc: Global,
     parts: &Parts<'_>,
@@ -141,7 +141,7 @@ fn ends_along(
     Ok(ends)
 }
 
-// The ends for the rows from one on, up to another one, where all of them are that of the plan of the rows as they are.
+// Returns the ends for the rows from one on, up to another one, where all of them are that of the plan of the rows as they are.
 fn same_ends(
     alloc: Global,
     parts: &Parts<'_>,
@@ -155,7 +155,7 @@ fn same_ends(
     vec![in alloc; parts.end; to - from]
 }
 
-// The ends for the rows of a piece, from one on, up to another one. Their plans go on from a copy of a course. Where no plan is to be made
+// Returns the ends for the rows of a piece, from one on, up to another one. Their plans go on from a copy of a course. Where no plan must be made
 // there is none.
 fn piece_ends(
     alloc: Global,
@@ -180,7 +180,7 @@ fn piece_ends(
     }
 }
 
-// The ends for the pieces of a stretch of rows, from one on, up to another one. Threads share them out, piece by piece.
+// Returns the ends for the pieces of a stretch of rows, from one on, up to another one. Threads share them out, piece by piece.
 fn pieces_between(
     rt: &(impl Threads + Sync),
     alloc: Global,
@@ -213,7 +213,7 @@ fn pieces_between(
         .collect::<Result<Vec<Vec<u64>>, AllocError>>(rt, alloc)?
 }
 
-// The ends for the rows of a stretch, from one on, up to another one: those of its pieces, one behind the other.
+// Returns the ends for the rows of a stretch, from one on, up to another one: those of its pieces, one after the other.
 fn ends_between(
     rt: &(impl Threads + Sync),
     alloc: Global,
@@ -236,7 +236,7 @@ fn ends_between(
     Ok(ends)
 }
 
-// The row behind a stretch that begins with this one. A stretch has as many rows as it takes for so many plans, or all that are left.
+// Returns the row after a stretch that begins with this one. A stretch has as many rows as it takes for the given number of plans, or all that are left.
 fn behind_stretch(parts: &Parts<'_>, from: usize) -> usize
     requires there { from < length parts.now.rows.now }
     requires parts { AreParts parts.now }
@@ -256,7 +256,7 @@ fn behind_stretch(parts: &Parts<'_>, from: usize) -> usize
     count
 }
 
-// The ends for all rows, stretch by stretch. The plan of the rows as they are is made once: before each stretch its course goes on up to where
+// Returns the ends for all rows, stretch by stretch. The plan of the rows as they are is made once: before each stretch its course goes on up to where
 // the plan of one of the rows that are left may differ.
 fn all_ends(
     rt: &(impl Threads + Sync),
@@ -286,8 +286,8 @@ fn all_ends(
     Ok(all)
 }
 
-/// For each row the end of the greedy plan for so many workers of the rows with that row alone at its least ticks, from the rows that
-/// each waits for, the offset of its last child, and the span. `AllocError` says that memory was refused.
+/// Returns for each row the end of the greedy plan for the given number of workers with that row alone at its least ticks. It takes the rows that each waits
+/// for, the offset of its last child, and the span. `AllocError` says that memory was refused.
 pub fn least_ends(
     rt: &(impl Threads + Sync),
     alloc: Global,

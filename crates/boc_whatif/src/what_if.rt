@@ -22,7 +22,7 @@ use boc_greedy::{Consequences, CurvePoint, Greedy, curve_over, greedy_over};
 use boc_order::{Earliest, Links, Profile, waits_and_plan};
 use boc_plans::edit::{Change, Edit, EditFault};
 use boc_plans::sharing::{SeenRows, Sharing};
-use boc_plans::workers::Workers;
+use boc_program::count::Workers;
 use boc_program::limits::MOST_ROWS;
 use boc_program::short::HeldCown;
 use boc_progress::Progress;
@@ -36,7 +36,7 @@ use std::thread::Threads;
 /// The rows of a finished run, of which a caller asks what they would be worth if some of them changed.
 ///
 /// It has rows of its own, with those that each waits for, and their earliest plan. An edit has one row take other
-/// ticks, be spawned at another tick, or cost a part of what it did, and places that row and those after it anew. All times are ticks.
+/// ticks, be spawned at another tick, or cost a part of what it did, and places that row and those after it again. All times are ticks.
 #[derive(Drop)]
 pub struct WhatIf {
     rows: Rows,
@@ -61,7 +61,7 @@ impl Model for WhatIf {
 }
 
 impl WhatIf {
-    /// The same rows, none of them edited, of which plans see so much shared. `AllocError` says that memory was refused.
+    /// Returns the same rows, none of them edited, of which plans see this much shared. `AllocError` says that memory was refused.
     ///
     /// It takes all memory that the edits need, and a copy of the rows. `of` takes over the rows of a caller who needs
     /// them no more.
@@ -73,7 +73,7 @@ impl WhatIf {
         WhatIf::of(alloc, rows.copy(alloc)?, sharing)
     }
 
-    /// These rows, none of them edited. `AllocError` says that memory was refused, and then the rows are gone.
+    /// Keeps these rows, none of them edited. `AllocError` says that memory was refused, and then the rows are gone.
     ///
     /// It takes all memory that the edits need, and time that grows with the number of rows and their cowns.
     pub fn of(alloc: Global, rows: Rows, sharing: Sharing) -> Result<WhatIf, AllocError>
@@ -96,7 +96,7 @@ impl WhatIf {
         })
     }
 
-    /// Has a row take so many ticks. The fault says why it can't, and then nothing changes.
+    /// Makes a row take this many ticks. The fault says why it can't, and then nothing changes.
     ///
     /// It takes no memory. It computes the row and those after it again.
     pub fn edit(&mut self, row: u32, ticks: u32) -> Result<(), EditFault>
@@ -112,7 +112,7 @@ impl WhatIf {
         self.make(Edit { row, change })
     }
 
-    /// Has a row change. The fault says why it can't, and then nothing changes.
+    /// Makes a row change. The fault says why it can't, and then nothing changes.
     ///
     /// It takes no memory. It computes the row and those after it again.
     pub fn make(&mut self, edit: Edit) -> Result<(), EditFault>
@@ -131,10 +131,10 @@ impl WhatIf {
         Ok(())
     }
 
-    /// Has rows change, edit by edit, up to the first that they can't take as those before it have made them. Those before it
+    /// Makes rows change, edit by edit, up to the first that they can't take as those before it have made them. Those before it
     /// are made.
     ///
-    /// It takes no memory. An edit takes time that grows with the children of its row. The least row that is edited and those after it are
+    /// It takes no memory. An edit takes time that grows with the children of its row. The lowest row that is edited and those after it are
     /// computed again, once for all edits.
     pub fn edit_all(&mut self, edits: &[Edit]) -> Result<(), Unfit>
         ensures rows { OnOk result (AreEdited self.old.rows edits.now self.new.rows) }
@@ -152,7 +152,7 @@ impl WhatIf {
         answer
     }
 
-    /// The same rows, as they are edited, none of which has this cown: it orders nobody. `AllocError` says that memory was refused.
+    /// Returns the same rows, as they are edited, none of which has this cown: it imposes no order. `AllocError` says that memory was refused.
     ///
     /// It takes memory and time that grow with the number of rows and their cowns.
     pub fn without(&self, alloc: Global, cown: HeldCown) -> Result<WhatIf, AllocError>
@@ -163,43 +163,43 @@ impl WhatIf {
         WhatIf::of(alloc, self.rows.without(alloc, cown)?, self.sharing)
     }
 
-    /// How many rows the last edit that was taken computed again: those from its row on, or from the
-    /// least row of several edits that were made at once. Before the first it is 0.
+    /// Returns how many rows the last edit that was taken computed again: those from its row on, or from the lowest row
+    /// of several edits that were made at once. Before the first it is 0.
     pub fn touched(&self) -> u64
         ensures { result ≡ self.now.touched }
     {
         self.touched
     }
 
-    /// The rows as they are edited.
+    /// Returns the rows as they are edited.
     pub fn rows(&self) -> &Rows
         ensures { result.now ≡ self.now.rows }
     {
         &self.rows
     }
 
-    /// How the rows share cowns.
+    /// Returns how the rows share cowns.
     pub fn sharing(&self) -> Sharing
         ensures { result ≡ self.now.sharing }
     {
         self.sharing
     }
 
-    /// The ticks of all rows together. It takes no memory.
+    /// Returns the ticks of all rows together. It takes no memory.
     pub fn work(&self) -> u64
         ensures { result ≡ work_of self.now.rows }
     {
         boc_order::work(self.rows.as_slice())
     }
 
-    /// The tick at which the earliest plan of the rows ends. It takes no memory.
+    /// Returns the tick at which the earliest plan of the rows ends. It takes no memory.
     pub fn span(&self) -> u64
         ensures { IsSpan (seen self.now.sharing self.now.rows) result }
     {
         self.plan.span()
     }
 
-    /// The profile of the rows, as `boc_order::profile` has it. `AllocError` says that memory was refused.
+    /// Returns the profile of the rows, as `boc_order::profile` has it. `AllocError` says that memory was refused.
     ///
     /// It comes from the plan that the edits keep, so no row is placed again. It takes memory and time that grow with
     /// the number of rows.
@@ -210,7 +210,7 @@ impl WhatIf {
             .profile(alloc, &SeenRows::new(&self.rows, self.sharing))
     }
 
-    /// The profile as `WhatIf::profile` has it, for a caller who asks no more: the plan's starts and ends are taken over, and not copied.
+    /// Returns the profile as `WhatIf::profile` has it, for a caller who asks no more: the plan's starts and ends are taken over, and not copied.
     /// `AllocError` says that memory was refused, and then the question is gone.
     pub fn into_profile(self, alloc: Global) -> Result<Profile, AllocError>
         ensures { IfOk result (λ profile. IsProfileOf (seen self.sharing self.rows) profile) }
@@ -219,7 +219,7 @@ impl WhatIf {
             .into_profile(alloc, &SeenRows::new(&self.rows, self.sharing))
     }
 
-    /// The greedy plan of the rows for so many workers, as `boc_greedy::greedy` has it. `AllocError` says that
+    /// Returns the greedy plan of the rows for the given number of workers, as `boc_greedy::greedy` has it. `AllocError` says that
     /// memory was refused.
     pub fn greedy(&self, alloc: Global, workers: Workers) -> Result<Greedy, AllocError>
         ensures { IfOk result (λ plan. IsGreedyPlanOf (seen self.now.sharing self.now.rows) workers plan) }
@@ -237,7 +237,7 @@ impl WhatIf {
         )
     }
 
-    /// For 1 worker, 2 workers and so on up to the most: the end of the greedy plan of the rows and what it lies between, as
+    /// Returns for 1 worker, 2 workers and so on up to the most: the end of the greedy plan of the rows and what it is between, as
     /// `boc_greedy::curve` has it. `AllocError` says that memory was refused.
     ///
     /// It makes a plan for each number of workers. Threads share them out, and each plan takes memory that grows with the number of rows.
@@ -264,11 +264,11 @@ impl WhatIf {
         )
     }
 
-    /// For each row the span that the rows would have if that row alone took the least ticks that it can: the offset
+    /// Returns for each row the span that the rows would have if that row alone took the fewest ticks that it can: the offset
     /// of its last child, and 1 at least. `AllocError` says that memory was refused.
     ///
     /// No row is placed again: it takes memory that grows with the number of rows and their cowns, and that much time
-    /// with its logarithm beside. From 32,766 rows on, threads find the spans, at most four; the answer is the same.
+    /// with its logarithm too. From 32,766 rows on, threads find the spans, at most four; the answer is the same.
     pub fn sweep(&self, rt: &(impl Threads + Sync), alloc: Global) -> Result<Vec<u64>, AllocError>
         ensures sweep { IfOk result (λ spans. IsSweep (seen self.now.sharing self.now.rows) spans.items) }
         ensures few { IfOk result (λ spans. length spans.items ≤ MOST_ROWS) }
@@ -277,11 +277,11 @@ impl WhatIf {
         sweep(rt, alloc, &rows, &self.waits, &self.plan, &self.lasts)
     }
 
-    /// For each row but main the span that the rows would have if that row alone were spawned as early as it can be: one tick after its elder
+    /// Returns for each row but main the span that the rows would have if that row alone were spawned as early as it can be: one tick after its earlier
     /// sibling's offset, or at its parent's tick 1. `AllocError` says that memory was refused.
     ///
     /// No row is placed again: it takes memory that grows with the number of rows and their cowns, and that much time with its logarithm
-    /// beside.
+    /// too.
     pub fn spawn_sweep(&self, alloc: Global) -> Result<Vec<u64>, AllocError>
         ensures sweep { IfOk result (λ spans. IsSpawnSweep (seen self.now.sharing self.now.rows) spans.items) }
         ensures few { IfOk result (λ spans. length spans.items ≤ MOST_ROWS) }
@@ -290,7 +290,8 @@ impl WhatIf {
         spawn_sweep(alloc, &rows, &self.waits, &self.plan)
     }
 
-    /// For each of so many cowns the span that the rows would have if that cown ordered nobody. `AllocError` says that memory was refused.
+    /// Returns for each of the given number of cowns the span that the rows would have if that cown imposed no order. `AllocError` says that memory was
+    /// refused.
     ///
     /// One pass over the rows and their cowns serves some cowns at once, one serves all that no row has, and each takes memory that grows with
     /// the number of rows. Threads share out the passes.
@@ -308,10 +309,10 @@ impl WhatIf {
         cown_sweep(rt, alloc, &rows, count)
     }
 
-    /// For each of so many cowns the end of the greedy plan that the rows would have for so many workers if that cown ordered nobody.
-    /// `AllocError` says that memory was refused.
+    /// Returns for each of the given number of cowns the end of the greedy plan that the rows would have for the given number of workers if that cown imposed
+    /// no order. `AllocError` says that memory was refused.
     ///
-    /// It makes a greedy plan for each cown, and copies no row. Threads share out the cowns, and progress is told after each 16 of them.
+    /// It makes a greedy plan for each cown, and copies no row. Threads share out the cowns, and progress is reported after each 16 of them.
     pub fn greedy_cown_sweep(
         &self,
         rt: &(impl Threads + Sync),
@@ -328,12 +329,12 @@ impl WhatIf {
         cown_ends(rt, alloc, &rows, count, workers, progress)
     }
 
-    /// For each row the end of the greedy plan that the rows would have for so many workers if that row alone took the least ticks that it
-    /// can: the offset of its last child, and 1 at least. `AllocError` says that memory was refused.
+    /// Returns for each row the end of the greedy plan for the given number of workers if that row alone took the fewest ticks that it can. These are the
+    /// offset of its last child, and 1 at least. `AllocError` says that memory was refused.
     ///
     /// For each row that takes more than its least ticks it makes a greedy plan, but what the plans of some neighbouring rows have in common
     /// with that of the rows as they are it makes once. Threads share out the rows, and each takes memory that grows with the number of
-    /// rows. Progress is told after each 1,024 plans.
+    /// rows. Progress is reported after each 1,024 plans.
     pub fn greedy_sweep(
         &self,
         rt: &(impl Threads + Sync),

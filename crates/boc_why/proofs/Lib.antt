@@ -1,6 +1,4 @@
 pub mod LinkCoding
-pub mod LinkHanded
-pub mod LinkLists
 pub mod LinkPlaces
 pub mod LinkSteps
 pub mod ShareKeys
@@ -11,15 +9,9 @@ pub mod EarlySpawns
 pub mod HalfCosts
 pub mod CauseEdits
 pub mod CauseSpans
-pub mod Found
-pub mod LeastLoads
-pub mod LeastSpawns
-pub mod FirstStarts
-pub mod LeastBusy
 pub mod RemedyRanking
 pub mod RemedyMarks
 pub mod WhyParts
-pub mod OneLeast
 pub mod OneRemedy
 pub mod OneWhy
 pub mod examples

@@ -6,7 +6,7 @@ use Rattle.std.proofs.lemmas.Option.{slice_get_within, same_Some, slice_get-get_
 use Rattle.boc_runs.specs.declared.rows.Row.{Row}
 use Rattle.boc_plans.specs.declared.chain.ChainStep.{ChainStep}
 use Rattle.boc_plans.specs.Chains.{IsChain, IsLink}
-use Rattle.boc_why.proofs.LinkLists.{pushed_cases}
+use Rattle.boc_order.proofs.Places.{pushed_cases}
 use Rattle.boc_why.specs.declared.links.Link.{Link}
 use Rattle.boc_why.specs.Shares.{LinkSays, AreLinks}
 

@@ -30,7 +30,7 @@ use Rattle.boc_why.specs.Causes.{def_edits, half, without_all}
 use Rattle.boc_why.specs.RemedySteps.{AreRanked}
 use Rattle.boc_why.specs.Remedies.{AreCandidates, IsRanking, IsSpanAfter, RanksBefore, members_of}
 use Rattle.boc_why.proofs.EarlySpawns.{one_early}
-use Rattle.boc_why.proofs.ShareLaws.{Ranked, ranked_from_places, same_ranked}
+use Rattle.boc_order.proofs.Ranked.{Ranked, ranked_from_places, same_ranked}
 
 -- ---- the span that is left
 

@@ -22,12 +22,14 @@ use Rattle.boc_why.specs.declared.remedies.Remedy.{Remedy}
 use Rattle.boc_why.specs.declared.shares.Share.{Share}
 use Rattle.boc_why.specs.declared.why.Why.{Why}
 use Rattle.boc_why.specs.Remedies.{AreCandidates, AreHandedFamilies, tried_of}
-use Rattle.boc_why.specs.Shares.{AreDefsOf, AreFirsts, AreHanded, AreLinks, AreShares, IsFirstLike, LinkSays}
+use Rattle.boc_order.specs.Handed.{AreHanded}
+use Rattle.boc_why.specs.Shares.{AreDefsOf, AreFirsts, AreLinks, AreShares, IsFirstLike, LinkSays}
 use Rattle.boc_why.specs.Why.{IsWhy, SayTheSame}
 use Rattle.boc_why.specs.WhySteps.{AreSharesByDef}
-use Rattle.boc_why.proofs.OneLeast.{one_least}
+use Rattle.boc_order.proofs.OneLeast.{one_least}
 use Rattle.boc_why.proofs.OneRemedy.{one_list as one_list_of_candidates}
-use Rattle.boc_why.proofs.ShareLaws.{Ranked, one_list as one_list_of_shares, ranked_from_places, same_ranked}
+use Rattle.boc_order.proofs.Ranked.{Ranked, ranked_from_places, same_ranked}
+use Rattle.boc_why.proofs.ShareLaws.{one_list as one_list_of_shares}
 
 -- ---- numbers that rise
 

@@ -15,8 +15,8 @@ use Rattle.boc_why.specs.declared.links.Link.{Link}
 use Rattle.boc_why.specs.declared.links.Link.TheVariants.{SpawnBy, Hands, Ends}
 use Rattle.boc_why.specs.Remedies.{AreHandedFamilies, HandsOn, IsHanded}
 use Rattle.boc_why.specs.RemedySteps.{AreMarked, AreMarkedPlaces}
-use Rattle.boc_why.proofs.LinkHanded.{AreThose, those_more, those_same}
-use Rattle.boc_why.proofs.LinkLists.{pushed_cases, pushed_kept, pushed_last}
+use Rattle.boc_order.proofs.HandedCowns.{AreThose, those_more, those_same}
+use Rattle.boc_order.proofs.Places.{pushed_cases, pushed_kept, pushed_last}
 
 -- one of these cowns is of the family
 abbrev pub HasFamily : List ℕ → List ℕ → ℕ → Type 0

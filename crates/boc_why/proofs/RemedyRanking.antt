@@ -1,18 +1,16 @@
 -- Spans with their places in order, and what was tried at these places.
 use Rattle.std.proofs.Common.{◌≡◌, ◌≢◌, ℕ, ◌+◌, ◌<◌, ◌⊎◌, List, [], ◌∷◌, ◌++◌, length, take, get_or, arith, sym, ap, subst, ◌∙◌, ⊎_elim, inl, inr}
-use Rattle.std.proofs.Common.{map, Some, false, true≢false, eqb, is_lt, Ordering, Less, Equal}
+use Rattle.std.proofs.Common.{map, Some, false, true≢false, is_lt, Ordering, Less, Equal}
 use Rattle.std.specs.Prelude.{All, slice_get, slice_index}
 use Rattle.std.specs.Cmp.{IsTotalOrder, nat_cmp_is}
-use Rattle.std.specs.List.{Contains, IsDistinct}
+use Rattle.std.specs.List.{Contains}
 use Rattle.std.specs.List.Sorted.{IsPermutation, IsSortedBy}
 use Rattle.std.specs.Ordering.{nat_cmp, ordering_then, on}
-use Rattle.std.proofs.lemmas.Bool.{cases_order, eqb-false, ne_eqb}
-use Rattle.std.proofs.lemmas.Bool.Decides.{eqb_tells}
+use Rattle.std.proofs.lemmas.Bool.{cases_order}
 use Rattle.std.proofs.lemmas.Cmp.{nat_cmp_total, then_total, on_total}
 use Rattle.std.proofs.lemmas.List.{get_or-map, get_or_default, length-map, length_push, take_more}
 use Rattle.std.proofs.lemmas.List.Elements.{Contains-get_or}
-use Rattle.std.proofs.lemmas.List.Sorted.{ranks_by, sorted_far, IsPermutation-sym, IsPermutation-map, length_permutation, Contains-permutation}
-use Rattle.std.proofs.lemmas.Map.Keys.{IsDistinct-IsPermutation, IsDistinct-from_apart, apart_from_distinct}
+use Rattle.std.proofs.lemmas.List.Sorted.{ranks_by, sorted_far, IsPermutation-sym, length_permutation, Contains-permutation}
 use Rattle.std.proofs.lemmas.Option.{get_or_from_slice_get, slice_get-get_or, slice_get_within}
 use Rattle.boc_runs.specs.declared.rows.Row.{Row}
 use Rattle.boc_plans.specs.declared.sharing.Sharing.{Sharing}
@@ -27,7 +25,8 @@ use Rattle.boc_why.specs.declared.remedies.Remedy.TheVariants.{HalfCost, NoOrder
 use Rattle.boc_why.specs.Causes.{AreSpansWith, IsSpanWith, without_all}
 use Rattle.boc_why.specs.Remedies.{AreCandidates, IsSpanAfter}
 use Rattle.boc_why.specs.RemedySteps.{AreCausesOf, AreChosen, ArePlaced, AreRanked, IsCauseOf}
-use Rattle.boc_why.proofs.LinkLists.{contains_from_place, place_from_contains, pushed_cases}
+use Rattle.boc_order.proofs.HeaviestFirst.{HaveOne, one_moved}
+use Rattle.boc_order.proofs.Places.{contains_from_place, place_from_contains, pushed_cases}
 
 -- what an index reads where there is no span
 abbrev pub no_span : Placed
@@ -61,18 +60,10 @@ comes_first a b h apart = ⊎_elim
     (λ (g : b.span < a.span). absurd (true≢false (rw (sym (nat_cmp_is b.span a.span Less g)) at h))))
     (cases_order a.span b.span)
 
-eqb_flips : (x y : ℕ) → eqb x y ≡ eqb y x
-eqb_flips x y = grind (arith, eqb_tells x y, eqb_tells y x)
-
 module _ (spans : List ℕ) where
   -- the places are all different
-  places_apart : (xs : List Placed) → ArePlaced spans xs → IsDistinct eqb (places_of xs)
-  places_apart xs are = IsDistinct-from_apart eqb (places_of xs) (λ i j d l h.
-      let hj : j < length xs = omega (arith, h, length-map xs (λ (p : Placed). p.place)) in
-      let hi : i < length xs = omega arith in
-      let a = (are.at i (get_or xs i no_span) (slice_get-get_or xs i no_span hi)).0 in
-      let b = (are.at j (get_or xs j no_span) (slice_get-get_or xs j no_span hj)).0 in
-      rw (place_at xs i d hi, place_at xs j d hj, a, b) (ne_eqb i j (omega arith)))
+  places_apart : (xs : List Placed) → ArePlaced spans xs → HaveOne (λ (p : Placed). p.place) xs
+  places_apart xs are i j a b l ia ib e = omega (arith, l, e, (are.at i a ia).0, (are.at j b ib).0)
 
   -- each of them is a span at its place
   is_placed : (xs : List Placed) → ArePlaced spans xs → (p : Placed) → Contains xs p → (p.span ≡ slice_index spans p.place) × (p.place < length spans)
@@ -89,8 +80,7 @@ module _ (spans : List ℕ) where
       let many : length (places_of ys) ≡ length ys = length-map ys (λ (p : Placed). p.place) in
       let own : (p : Placed) → Contains ys p → (p.span ≡ slice_index spans p.place) × (p.place < length spans)
       = λ p stands. is_placed xs are p (Contains-permutation ys xs p (IsPermutation-sym xs ys moved) stands) in
-      let apart : IsDistinct eqb (places_of ys) = IsDistinct-IsPermutation eqb eqb_flips (places_of xs) (places_of ys)
-      (IsPermutation-map (λ (p : Placed). p.place) xs ys moved) (places_apart xs are) in
+      let one : HaveOne (λ (p : Placed). p.place) ys = one_moved (λ (p : Placed). p.place) xs ys moved (places_apart xs are) in
       record {
         ranking = record {
           whole = omega (arith, many, length_permutation xs ys moved, are.whole);
@@ -102,8 +92,7 @@ module _ (spans : List ℕ) where
               let hi : i < length ys = omega arith in
               let a : Placed = get_or ys i no_span in
               let b : Placed = get_or ys j no_span in
-              let other : a.place ≢ b.place = eqb-false a.place b.place
-              (rw (place_at ys i 0 hi, place_at ys j 0 hj) at (apart_from_distinct eqb (places_of ys) i j 0 apart l h)) in
+              let other : a.place ≢ b.place = one i j a b l (slice_get-get_or ys i no_span hi) (slice_get-get_or ys j no_span hj) in
               let first = comes_first a b
               (sorted_far (λ x y. is_lt (placed_cmp x y)) (ranks_by placed_total (λ (p : Placed). p)) ys up i j no_span (omega arith) hj) other in
               rw (place_at ys i 0 hi, place_at ys j 0 hj, ← (own a (Contains-get_or ys i no_span hi)).0, ← (own b (Contains-get_or ys j no_span hj)).0) first;

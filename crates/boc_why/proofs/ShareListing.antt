@@ -9,7 +9,7 @@ use Rattle.boc_plans.specs.declared.chain.ChainStep.{ChainStep}
 use Rattle.boc_why.specs.declared.shares.Share.{Share}
 use Rattle.boc_why.specs.Shares.{IsShare}
 use Rattle.boc_why.specs.ShareTotals.{ListShares}
-use Rattle.boc_why.proofs.LinkLists.{pushed_cases, pushed_kept, pushed_last}
+use Rattle.boc_order.proofs.Places.{pushed_cases, pushed_kept, pushed_last}
 
 -- the share of this key stands among these
 pub record HasShareOf (shares : List Share) (key : ℕ) : Type 0 where

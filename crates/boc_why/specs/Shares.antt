@@ -1,12 +1,11 @@
 -- What a chain goes through, and how much of it: the defs of its rows, and what leads from each row to the next.
-use Rattle.std.specs.Prelude.{◌≡◌, ◌≢◌, ◌↔◌, ◌+◌, ◌<◌, ◌⊎◌, ◌==◌, ℕ, suc, List, [], ◌∷◌, length, cond, Option, Some, slice_get, slice_index}
+use Rattle.std.specs.Prelude.{◌≡◌, ◌≢◌, ◌+◌, ◌<◌, ◌⊎◌, ◌==◌, ℕ, suc, List, [], ◌∷◌, length, cond, Option, Some, slice_get, slice_index}
 use Rattle.std.specs.List.{Contains}
-use Rattle.std.specs.List.Sorted.{IsStrictlyIncreasing}
 use Rattle.boc_runs.specs.declared.rows.Row.{Row}
 use Rattle.boc_plans.specs.declared.chain.ChainStep.{ChainStep}
 use Rattle.boc_plans.specs.declared.chain.Via.{Via}
 use Rattle.boc_plans.specs.declared.chain.Via.TheVariants.{Spawn, Order, Last}
-use Rattle.boc_plans.specs.Plans.{ConflictOn}
+use Rattle.boc_order.specs.Handed.{AreHanded}
 use Rattle.boc_why.specs.declared.links.Link.{Link}
 use Rattle.boc_why.specs.declared.links.Link.TheVariants.{SpawnBy, Hands, Ends}
 use Rattle.boc_why.specs.declared.shares.Share.{Share}
@@ -14,11 +13,6 @@ use Rattle.boc_why.specs.declared.shares.Share.{Share}
 -- the def of a row
 abbrev pub def_of : List ℕ → ℕ → ℕ
 def_of defs row = slice_index defs row
-
--- the cowns over which row a is ordered before row b, rising
-pub record AreHanded (rows : List Row) (a b : ℕ) (cowns : List ℕ) : Type 0 where
-  pub rise : IsStrictlyIncreasing cowns
-  pub each : (c : ℕ) → Contains cowns c ↔ ConflictOn rows c a b
 
 -- what leads on from row a of a chain: a spawn, by the row's def; the cowns that it hands to the row after it; or nothing, where all is over
 abbrev pub LinkSays : List Row → List ℕ → ℕ → Via → Option ChainStep → Link → Type 0

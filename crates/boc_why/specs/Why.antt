@@ -5,7 +5,7 @@ use Rattle.boc_plans.specs.declared.sharing.Sharing.{Sharing}
 use Rattle.boc_plans.specs.Seen.{seen}
 use Rattle.boc_order.specs.Profiles.{IsProfileOf}
 use Rattle.boc_why.specs.Shares.{AreDefsOf, AreFirsts, AreLinks, AreShares}
-use Rattle.boc_why.specs.Least.{IsLeast}
+use Rattle.boc_order.specs.Least.{IsLeast}
 use Rattle.boc_why.specs.Remedies.{AreCandidates, AreHandedFamilies, tried_of}
 use Rattle.boc_why.specs.declared.why.Why.{Why}
 

@@ -29,7 +29,7 @@ pub enum Cause {
     Spawns(u32),
 }
 
-/// The edits by which each row of a def costs this part of what it did, in the order of the rows, whose defs these are. `AllocError` says that
+/// Returns the edits by which each row of a def costs this part of what it did, in the order of the rows, whose defs these are. `AllocError` says that
 /// memory was refused.
 pub fn def_edits(alloc: Global, defs: &[u32], def: u32, part: Part) -> Result<Vec<Edit>, AllocError>
     requires few { length defs.now ≤ MOST_ROWS }
@@ -48,7 +48,7 @@ pub fn def_edits(alloc: Global, defs: &[u32], def: u32, part: Part) -> Result<Ve
     Ok(edits)
 }
 
-/// The same rows, none of which has one of these cowns. `AllocError` says that memory was refused, and then the rows are gone.
+/// Returns the same rows, none of which has one of these cowns. `AllocError` says that memory was refused, and then the rows are gone.
 pub fn without_all(alloc: Global, rows: Rows, cowns: &[HeldCown]) -> Result<Rows, AllocError>
     ensures { IfOk result (λ left. left ≡ without_all cowns.now rows) }
 {
@@ -59,7 +59,7 @@ pub fn without_all(alloc: Global, rows: Rows, cowns: &[HeldCown]) -> Result<Rows
     Ok(left)
 }
 
-/// Has the rows of a def spawn as early as they can: the first child at tick 1, and each other one a tick after its elder sibling. These are the
+/// Makes the rows of a def spawn as early as they can: the first child at tick 1, and each other one a tick after its earlier sibling. These are the
 /// defs of the rows. `AllocError` says that memory was refused, and then nothing changes.
 pub fn spawn_early(alloc: Global, rows: &mut Rows, defs: &[u32], def: u32) -> Result<(), AllocError>
     requires defs { length defs.now ≡ length rows.old }
@@ -85,7 +85,7 @@ fn half() -> Part
     Part::new(1, 2).unwrap()
 }
 
-// The span of some rows. `AllocError` says that memory was refused.
+// Returns the span of some rows. `AllocError` says that memory was refused.
 fn span_of(alloc: Global, rows: Rows, sharing: Sharing) -> Result<u64, AllocError>
     ensures { IfOk result (IsSpan (seen sharing rows)) }
 {
@@ -94,7 +94,7 @@ fn span_of(alloc: Global, rows: Rows, sharing: Sharing) -> Result<u64, AllocErro
     Ok(plan.span())
 }
 
-// The span of the rows in which those of a def cost half as much. `AllocError` says that memory was refused.
+// Returns the span of the rows in which those of a def cost half as much. `AllocError` says that memory was refused.
 fn halved_span(
     alloc: Global,
     rows: Rows,
@@ -113,7 +113,7 @@ fn halved_span(
     }
 }
 
-// The span that is left with a cause changed. `AllocError` says that memory was refused.
+// Returns the span that is left with a cause changed. `AllocError` says that memory was refused.
 fn span_with(
     alloc: Global,
     rows: &Rows,
@@ -135,10 +135,10 @@ fn span_with(
     }
 }
 
-/// For each cause the span that is left where the def's behaviours cost half as much, the cowns order nobody, or the def's behaviours spawn as
+/// Returns for each cause the span that is left where the def's behaviours cost half as much, the cowns impose no order, or the def's behaviours spawn as
 /// early as they can: the end of the earliest plan, in ticks. These are the defs of the rows. `AllocError` says that memory was refused.
 ///
-/// Each cause takes a copy of the rows, and memory and time that grow with the number of rows and their cowns; where cowns order nobody, one such
+/// Each cause takes a copy of the rows, and memory and time that grow with the number of rows and their cowns; where cowns impose no order, one such
 /// copy after the other for each of them. Threads share out the causes.
 pub fn spans_with(
     rt: &(impl Threads + Sync),

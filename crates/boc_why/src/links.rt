@@ -1,4 +1,4 @@
-// What leads on from each row of a chain to the next one, and where the same link stands first.
+// What leads on from each row of a chain to the next one, and where the same link comes first.
 
 ghost use Rattle.std.specs.Prelude.{◌≡◌, ◌<◌, ◌≤◌, ◌+◌, ◌==◌, ℕ, length, if◌then◌else◌, IfOk, All, slice_get};
 ghost use Rattle.std.specs.Option.{unwrap_or};
@@ -7,10 +7,10 @@ ghost use Rattle.std.specs.BTreeMap as tree;
 ghost use Rattle.boc_program.specs.declared.limits.TheConstants.{MOST_COWNS, MOST_HELD, MOST_ROWS};
 ghost use Rattle.boc_runs.specs.Rows.{IsRows};
 ghost use Rattle.boc_plans.specs.Chains.{IsChain, IsLink};
-ghost use Rattle.boc_why.specs.Shares.{AreHanded, LinkSays, AreLinks, AreFirsts};
+ghost use Rattle.boc_why.specs.Shares.{LinkSays, AreLinks, AreFirsts};
 ghost use Rattle.boc_why.specs.LinkCodes.{cowns_code, IsCode, AreCodes, AreFirstPlaces};
 
-use boc_order::conflict_on;
+use boc_order::handed;
 use boc_plans::chain::{ChainStep, Via};
 use boc_plans::sharing::SeenRows;
 use boc_program::held::HeldCowns;
@@ -30,23 +30,7 @@ pub enum Link {
     Ends,
 }
 
-/// The cowns over which row a is ordered before row b, rising. It takes no memory.
-pub fn handed(rows: &SeenRows, a: usize, b: usize) -> HeldCowns
-    requires shape { IsRows rows.now }
-    requires first { a < length rows.now }
-    requires second { b < length rows.now }
-    ensures { AreHanded rows.now a b result.items }
-{
-    let mut handed = Cowns::new();
-    for cown in rows.held(a).as_slice() {
-        if conflict_on(rows, *cown, a, b) {
-            handed.push(CownNo::from(*cown));
-        }
-    }
-    HeldCowns::of(&handed)
-}
-
-// What leads on from a step, where `next` is the step after it.
+// Returns what leads on from a step, where `next` is the step after it.
 fn link_of(rows: &SeenRows, defs: &[u32], step: ChainStep, next: Option<ChainStep>) -> Link
     requires shape { IsRows rows.now }
     requires defs { length defs.now ≡ length rows.now }
@@ -62,7 +46,7 @@ fn link_of(rows: &SeenRows, defs: &[u32], step: ChainStep, next: Option<ChainSte
     }
 }
 
-// The step after the one at this place, if any.
+// Returns the step after the one at this place, if any.
 fn step_after(steps: &[ChainStep], place: usize) -> Option<ChainStep>
     requires { place < length steps.now }
     ensures { result ≡ slice_get steps.now (place + 1) }
@@ -70,7 +54,7 @@ fn step_after(steps: &[ChainStep], place: usize) -> Option<ChainStep>
     steps.get(place + 1).copied()
 }
 
-/// For each step of a chain what leads on from it to the next one. `AllocError` says that memory was refused.
+/// Returns for each step of a chain what leads on from it to the next one. `AllocError` says that memory was refused.
 pub fn links_of(
     alloc: Global,
     rows: &SeenRows,
@@ -101,7 +85,7 @@ fn code_of_cowns(cowns: &[HeldCown]) -> u128
     }
 }
 
-// A link as one number.
+// Returns a link as one number.
 fn code_of(link: &Link) -> u128
     ensures { IsCode link.now result }
 {
@@ -112,7 +96,7 @@ fn code_of(link: &Link) -> u128
     }
 }
 
-// Each link's number.
+// Returns each link's number.
 fn codes_of(alloc: Global, links: &[Link]) -> Result<Vec<u128>, AllocError>
     ensures { IfOk result (λ codes. AreCodes links.now codes.items) }
 {
@@ -123,7 +107,7 @@ fn codes_of(alloc: Global, links: &[Link]) -> Result<Vec<u128>, AllocError>
     Ok(codes)
 }
 
-// The place at which a number was seen first, which is this one if it was not seen before.
+// Returns the place at which a number was seen first, which is this one if it was not seen before.
 fn first_seen(seen: &mut BTreeMap<u128, u32>, code: u128, place: u32) -> Result<u32, AllocError>
     ensures first { IfOk result (λ first. first ≡ unwrap_or (tree.get nat_cmp seen.old code) place) }
     ensures seen { IfOk result (λ first. (q : ℕ) → tree.get nat_cmp seen.new q ≡ (if q == code then Some first else tree.get nat_cmp seen.old q)) }
@@ -135,7 +119,7 @@ fn first_seen(seen: &mut BTreeMap<u128, u32>, code: u128, place: u32) -> Result<
     Ok(place)
 }
 
-// For each number the first place at which it stands.
+// Returns for each number the first place at which it is.
 fn first_places(alloc: Global, codes: &[u128]) -> Result<Vec<u32>, AllocError>
     requires { length codes.now ≤ MOST_ROWS }
     ensures { IfOk result (λ firsts. AreFirstPlaces codes.now firsts.items) }
@@ -148,7 +132,7 @@ fn first_places(alloc: Global, codes: &[u128]) -> Result<Vec<u32>, AllocError>
     Ok(firsts)
 }
 
-/// For each link the first place at which the same one stands. `AllocError` says that memory was refused.
+/// Returns for each link the first place at which the same one is. `AllocError` says that memory was refused.
 ///
 /// It takes memory that grows with the number of links, and little more time.
 pub fn firsts(alloc: Global, links: &[Link]) -> Result<Vec<u32>, AllocError>

@@ -1,4 +1,4 @@
-// What would bring the end of some rows forward, and how much is left then.
+// What would move the end of some rows forward, and how much is left then.
 
 ghost use Rattle.std.specs.Prelude.{◌≡◌, ◌<◌, ◌≤◌, ◌++◌, ◌∷◌, [], List, length, slice_get, All, IfOk};
 ghost use Rattle.boc_program.specs.declared.limits.TheConstants.{MOST_COWNS};
@@ -16,12 +16,12 @@ use boc_runs::rows::Rows;
 use std::alloc::{AllocError, Global};
 use std::thread::Threads;
 
-/// What would bring the end of some rows forward.
+/// What would move the end of some rows forward.
 #[derive(Clone, Copy, PartialEq, Eq, Debug)]
 pub enum Remedy {
     /// The behaviours of this def cost half as much.
     HalfCost(u32),
-    /// The cowns of this family order nobody.
+    /// The cowns of this family impose no order.
     NoOrder(u32),
     /// The behaviours of this def spawn as early as they can.
     EarlySpawns(u32),
@@ -34,10 +34,10 @@ pub struct Candidate {
     pub span: u64,
 }
 
-/// So many defs at most are tried at half their cost, and so many with earlier spawns.
+/// The given number of defs at most are tried at half their cost, and this many with earlier spawns.
 pub const MOST_TRIED: usize = 20;
 
-// The cowns of a family, rising: each cown belongs to the family at its place. `AllocError` says that memory was refused.
+// Returns the cowns of a family, rising: each cown belongs to the family at its place. `AllocError` says that memory was refused.
 fn members_of(alloc: Global, family: u32, families: &[u32]) -> Result<Vec<HeldCown>, AllocError>
     requires few { length families.now ≤ MOST_COWNS }
     ensures { IfOk result (λ members. members.items ≡ members_of family 0 families.now) }
@@ -51,7 +51,7 @@ fn members_of(alloc: Global, family: u32, families: &[u32]) -> Result<Vec<HeldCo
     Ok(members)
 }
 
-// What a remedy takes away, where each cown belongs to the family at its place. `AllocError` says that memory was refused.
+// Returns what a remedy takes away, where each cown belongs to the family at its place. `AllocError` says that memory was refused.
 fn cause_of(alloc: Global, remedy: Remedy, families: &[u32]) -> Result<Cause, AllocError>
     requires few { length families.now ≤ MOST_COWNS }
     ensures { IfOk result (IsCauseOf families.now remedy) }
@@ -63,7 +63,7 @@ fn cause_of(alloc: Global, remedy: Remedy, families: &[u32]) -> Result<Cause, Al
     }
 }
 
-// What each remedy takes away. `AllocError` says that memory was refused.
+// Returns what each remedy takes away. `AllocError` says that memory was refused.
 fn causes_of(alloc: Global, remedies: &[Remedy], families: &[u32]) -> Result<Vec<Cause>, AllocError>
     requires few { length families.now ≤ MOST_COWNS }
     ensures { IfOk result (λ causes. AreCausesOf families.now remedies.now causes.items) }
@@ -75,7 +75,7 @@ fn causes_of(alloc: Global, remedies: &[Remedy], families: &[u32]) -> Result<Vec
     Ok(causes)
 }
 
-// The family of a cown, if it has one.
+// Returns the family of a cown, if it has one.
 fn family_of(families: &[u32], cown: HeldCown) -> Option<u32>
     ensures { result ≡ slice_get families.now cown }
 {
@@ -97,7 +97,7 @@ fn mark_handed(link: &Link, families: &[u32], marks: &mut [bool])
     }
 }
 
-// Whether some cown of a family is handed on, for each family. `AllocError` says that memory was refused.
+// Returns whether some cown of a family is handed on, for each family. `AllocError` says that memory was refused.
 fn handed_marks(alloc: Global, links: &[Link], families: &[u32]) -> Result<Vec<bool>, AllocError>
     requires few_families { All (λ f. f < MOST_COWNS) families.now }
     ensures { IfOk result (λ marks. AreMarked links.now families.now marks.items) }
@@ -109,7 +109,7 @@ fn handed_marks(alloc: Global, links: &[Link], families: &[u32]) -> Result<Vec<b
     Ok(marks)
 }
 
-// The places that are marked, rising. `AllocError` says that memory was refused.
+// Returns the places that are marked, rising. `AllocError` says that memory was refused.
 fn marked_places(alloc: Global, marks: &[bool]) -> Result<Vec<u32>, AllocError>
     requires few { length marks.now ≤ MOST_COWNS }
     ensures { IfOk result (λ places. AreMarkedPlaces marks.now places.items) }
@@ -123,7 +123,7 @@ fn marked_places(alloc: Global, marks: &[bool]) -> Result<Vec<u32>, AllocError>
     Ok(places)
 }
 
-/// The families of the cowns that some links hand on, rising, where each cown belongs to the family at its place. `AllocError` says that memory was
+/// Returns the families of the cowns that some links hand on, rising, where each cown belongs to the family at its place. `AllocError` says that memory was
 /// refused.
 pub(crate) fn handed_families(
     alloc: Global,
@@ -137,7 +137,7 @@ pub(crate) fn handed_families(
     marked_places(alloc, &marks)
 }
 
-// The def that spawns by the link at a place, if there is one and it is a spawn.
+// Returns the def that spawns by the link at a place, if there is one and it is a spawn.
 fn spawner_at(links: &[Link], place: u32) -> Option<u32>
     ensures { result ≡ spawner_of (slice_get links.now place) }
 {
@@ -147,7 +147,7 @@ fn spawner_at(links: &[Link], place: u32) -> Option<u32>
     }
 }
 
-/// What is tried: the defs that weigh most in a chain at half their cost, the families that it hands on without their order, and earlier spawns of the
+/// Returns what is tried: the defs that weigh most in a chain at half their cost, the families that it hands on without their order, and earlier spawns of the
 /// defs that weigh most by their spawns. `AllocError` says that memory was refused.
 pub(crate) fn tried(
     alloc: Global,
@@ -173,14 +173,14 @@ pub(crate) fn tried(
         .collect(alloc)
 }
 
-/// A span, and the place at which it stands.
+/// A span, and the place at which it is.
 #[derive(Clone, Copy, PartialEq, Eq, Debug)]
 pub struct Placed {
     pub span: u64,
     pub place: usize,
 }
 
-// All spans with their places. `AllocError` says that memory was refused.
+// Returns all spans with their places. `AllocError` says that memory was refused.
 fn placed_spans(alloc: Global, spans: &[u64]) -> Result<Vec<Placed>, AllocError>
     ensures { IfOk result (λ placed. ArePlaced spans.now placed.items) }
 {
@@ -191,7 +191,7 @@ fn placed_spans(alloc: Global, spans: &[u64]) -> Result<Vec<Placed>, AllocError>
     Ok(placed)
 }
 
-/// All spans with their places, the least span first, and of equal ones the first. `AllocError` says that memory was refused.
+/// Returns all spans with their places, the smallest span first, and of equal ones the first. `AllocError` says that memory was refused.
 pub fn ranked(alloc: Global, spans: &[u64]) -> Result<Vec<Placed>, AllocError>
     ensures ranked { IfOk result (λ placed. AreRanked spans.now placed.items) }
     ensures below { IfOk result (λ placed. All (λ p. p.place < length spans.now) placed.items) }
@@ -201,7 +201,7 @@ pub fn ranked(alloc: Global, spans: &[u64]) -> Result<Vec<Placed>, AllocError>
     Ok(placed)
 }
 
-// For each place the remedy that was tried there, with the span. `AllocError` says that memory was refused.
+// Returns for each place the remedy that was tried there, with the span. `AllocError` says that memory was refused.
 fn chosen(alloc: Global, tried: &[Remedy], placed: &[Placed]) -> Result<Vec<Candidate>, AllocError>
     requires below { All (λ p. p.place < length tried.now) placed.now }
     ensures { IfOk result (λ candidates. AreChosen tried.now placed.now candidates.items) }
@@ -216,7 +216,7 @@ fn chosen(alloc: Global, tried: &[Remedy], placed: &[Placed]) -> Result<Vec<Cand
     Ok(candidates)
 }
 
-/// What is tried, each with the span that is left, the least span first. These are the defs of the rows, and each cown belongs to the family at its
+/// Returns what is tried, each with the span that is left, the smallest span first. These are the defs of the rows, and each cown belongs to the family at its
 /// place. `AllocError` says that memory was refused.
 ///
 /// Each remedy takes a plan of its own, with memory and time that grow with the number of rows and their cowns; to leave out an array takes a copy of

@@ -28,7 +28,7 @@ struct Totals {
     steps: Vec<u32>,
 }
 
-/// The def of each step's row. `AllocError` says that memory was refused.
+/// Returns the def of each step's row. `AllocError` says that memory was refused.
 pub fn defs_of(alloc: Global, defs: &[u32], steps: &[ChainStep]) -> Result<Vec<u32>, AllocError>
     requires { All (λ s. s.row < length defs.now) steps.now }
     ensures { IfOk result (λ keys. AreDefsOf defs.now steps.now keys.items) }
@@ -40,14 +40,14 @@ pub fn defs_of(alloc: Global, defs: &[u32], steps: &[ChainStep]) -> Result<Vec<u
     Ok(keys)
 }
 
-// The ticks that a step weighs, which fit 32 bits.
+// Returns the ticks that a step weighs, which fit 32 bits.
 fn weight(step: &ChainStep) -> u32
     ensures { result ≡ step.now.weight }
 {
     step.weight
 }
 
-// The totals of the keys below the bound.
+// Returns the totals of the keys below the bound.
 fn totals_of(
     alloc: Global,
     keys: &[u32],
@@ -72,7 +72,7 @@ fn totals_of(
     })
 }
 
-// The shares of all keys of a chain, the least key first.
+// Returns the shares of all keys of a chain, the lowest key first.
 fn shares_by_key(
     alloc: Global,
     keys: &[u32],
@@ -99,7 +99,7 @@ fn shares_by_key(
     Ok(shares)
 }
 
-/// The shares of all keys of a chain, those that weigh most first, and of those that weigh as much the least key first. Each step has the key
+/// Returns the shares of all keys of a chain, those that weigh most first, and of those that weigh as much the lowest key first. Each step has the key
 /// at its place, and keys are below the bound. `AllocError` says that memory was refused.
 ///
 /// It takes time and memory that grow with the number of steps and with the bound, and for the order a little more time.

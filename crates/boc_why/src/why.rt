@@ -5,11 +5,10 @@ ghost use Rattle.boc_program.specs.declared.limits.TheConstants.{MOST_COWNS, MOS
 ghost use Rattle.boc_why.specs.Why.{IsWhy};
 ghost use Rattle.boc_why.specs.WhySteps.{AreSharesByDef, AreSharesByLink, AreTried};
 
-use crate::least::{Least, least_end};
 use crate::links::{Link, firsts, links_of};
 use crate::remedies::{Candidate, Remedy, candidates, handed_families, tried};
 use crate::shares::{Share, defs_of, shares_of};
-use boc_order::{Profile, profile};
+use boc_order::{Least, Profile, least_end, profile};
 use boc_plans::chain::ChainStep;
 use boc_plans::sharing::{SeenRows, Sharing};
 use boc_program::limits::MOST_ROWS;
@@ -28,13 +27,13 @@ pub struct Why {
     pub by_def: Vec<Share>,
     /// The shares of the chain by link: a key is the first place of the chain with that link.
     pub by_link: Vec<Share>,
-    /// What would bring the end forward, best first.
+    /// What would move the end forward, best first.
     pub candidates: Vec<Candidate>,
     /// A lower bound for any order on the cowns.
     pub least: Least,
 }
 
-/// The shares of a chain by the defs of its rows, as `shares_of` has them: a key is a def's number. These are the defs of all rows. `AllocError` says
+/// Returns the shares of a chain by the defs of its rows, as `shares_of` has them: a key is a def's number. These are the defs of all rows. `AllocError` says
 /// that memory was refused.
 pub fn shares_by_def(
     alloc: Global,
@@ -50,7 +49,7 @@ pub fn shares_by_def(
     shares_of(alloc, &keys, steps, MOST_ROWS)
 }
 
-// The shares of a chain by its links. `AllocError` says that memory was refused.
+// Returns the shares of a chain by its links. `AllocError` says that memory was refused.
 fn shares_by_link(
     alloc: Global,
     links: &[Link],
@@ -65,7 +64,7 @@ fn shares_by_link(
     shares_of(alloc, &keys, steps, links.len())
 }
 
-// What is tried for a chain with these shares and links. `AllocError` says that memory was refused.
+// Returns what is tried for a chain with these shares and links. `AllocError` says that memory was refused.
 fn tried_for(
     alloc: Global,
     by_def: &[Share],
@@ -80,8 +79,8 @@ fn tried_for(
     tried(alloc, by_def, by_link, links, &handed)
 }
 
-/// Why some rows take as long as they do: the chain that holds them back, what leads on from each of its steps, its shares by def and by link, what
-/// would bring the end forward, best first, and a lower bound for any order on the cowns. These are the defs of the rows, and each cown
+/// Returns why some rows take as long as they do: the chain that holds them back, what leads on from each of its steps, its shares by def and by link, what
+/// would move the end forward, best first, and a lower bound for any order on the cowns. These are the defs of the rows, and each cown
 /// belongs to the family at its place. `AllocError` says that memory was refused.
 ///
 /// Each remedy that is tried takes a plan of its own, with memory and time that grow with the number of rows and their cowns; to leave out an array

@@ -9,8 +9,8 @@ use Rattle.boc_table.specs.Tables.{table_text}
 use Rattle.boc_names.specs.declared.names.Names.{Names}
 use Rattle.boc_names.specs.Names.{CallTheSame, separated, text_at}
 use Rattle.boc_names.specs.Stretches.{stretches}
-use Rattle.boc_why.specs.declared.least.Busiest.{Busiest}
-use Rattle.boc_why.specs.declared.least.Least.{Least}
+use Rattle.boc_order.specs.declared.least.Busiest.{Busiest}
+use Rattle.boc_order.specs.declared.least.Least.{Least}
 use Rattle.boc_why.specs.declared.links.Link.{Link}
 use Rattle.boc_why.specs.declared.links.Link.TheVariants.{SpawnBy, Hands, Ends}
 use Rattle.boc_why.specs.declared.remedies.Candidate.{Candidate}
@@ -18,7 +18,7 @@ use Rattle.boc_why.specs.declared.remedies.Remedy.{Remedy}
 use Rattle.boc_why.specs.declared.remedies.Remedy.TheVariants.{HalfCost, NoOrder, EarlySpawns}
 use Rattle.boc_why.specs.declared.shares.Share.{Share}
 use Rattle.boc_why.specs.declared.why.Why.{Why}
-use Rattle.boc_why.specs.Least.{tick_of}
+use Rattle.boc_order.specs.Least.{tick_of}
 use Rattle.boc_why.specs.Shares.{def_of}
 use Rattle.boc_why.specs.Why.{SayTheSame}
 use Rattle.boc_why_report.specs.declared.short.Outcome.{Outcome}

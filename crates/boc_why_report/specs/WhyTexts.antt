@@ -9,9 +9,9 @@ use Rattle.boc_names.specs.declared.names.Names.{Names}
 use Rattle.boc_names.specs.Names.{Text, text_at, texts_of}
 use Rattle.boc_why.specs.declared.links.Link.{Link}
 use Rattle.boc_why.specs.declared.shares.Share.{Share}
-use Rattle.boc_why.specs.declared.least.Busiest.{Busiest}
-use Rattle.boc_why.specs.declared.least.Least.{Least}
-use Rattle.boc_why.specs.Least.{tick_of}
+use Rattle.boc_order.specs.declared.least.Busiest.{Busiest}
+use Rattle.boc_order.specs.declared.least.Least.{Least}
+use Rattle.boc_order.specs.Least.{tick_of}
 use Rattle.boc_why.specs.declared.remedies.Remedy.{Remedy}
 use Rattle.boc_why.specs.declared.remedies.Remedy.TheVariants.{HalfCost, NoOrder, EarlySpawns}
 use Rattle.boc_why.specs.declared.remedies.Candidate.{Candidate}

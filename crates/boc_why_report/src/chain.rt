@@ -21,7 +21,7 @@ pub(crate) const CHAIN_SIDES: [Side; 6] = [
     Side::Left,
 ];
 
-/// A number, as a text.
+/// Returns a number, as a text.
 pub(crate) fn number(alloc: Global, number: u64) -> Result<Vec<u8>, AllocError>
     ensures { IfOk result (λ text. text.items ≡ decimal number) }
 {
@@ -52,14 +52,14 @@ pub(crate) fn put_step(
     table.put_line(&[&[], &tick, &ticks, &row, behaviour, &then])
 }
 
-/// The step at a place, where there is one.
+/// Returns the step at a place, where there is one.
 pub(crate) fn step_at(steps: &[ChainStep], place: usize) -> Option<ChainStep>
     ensures { result ≡ slice_get steps.now place }
 {
     steps.get(place).copied()
 }
 
-/// Puts the lines of the first steps of a chain, so many of them.
+/// Puts the lines of the first steps of a chain, this many of them.
 pub(crate) fn put_steps(
     alloc: Global,
     table: &mut Table,
@@ -93,7 +93,7 @@ pub(crate) fn put_steps(
     Ok(())
 }
 
-/// Puts what stands above a chain's columns.
+/// Puts what is above a chain's columns.
 pub(crate) fn put_head(table: &mut Table) -> Result<(), AllocError>
     requires { length table.old.sides ≡ 6 }
     ensures { OnOk result (table.new ≡ record table.old { lines = table.old.lines ++ chain_head ∷ [] }) }
@@ -101,7 +101,7 @@ pub(crate) fn put_head(table: &mut Table) -> Result<(), AllocError>
     table.put_line(&[&[], b"tick", b"ticks", b"row", b"behaviour", b"then"])
 }
 
-/// Puts the tick at which all is over.
+/// Puts the tick at which all has ended.
 pub(crate) fn put_foot(alloc: Global, table: &mut Table, span: u64) -> Result<(), AllocError>
     requires { length table.old.sides ≡ 6 }
     ensures { OnOk result (table.new ≡ record table.old { lines = table.old.lines ++ chain_foot span ∷ [] }) }
@@ -110,7 +110,7 @@ pub(crate) fn put_foot(alloc: Global, table: &mut Table, span: u64) -> Result<()
     table.put_line(&[&[], &span, &[], &[], &[], &[]])
 }
 
-// The table of the chain, a line for each step.
+// Returns the table of the chain, a line for each step.
 fn chain_table(alloc: Global, names: &Names, why: &Why) -> Result<Table, AllocError>
     requires there { All (λ s. s.row < length why.now.profile.starts.items) why.now.profile.chain.steps.items }
     requires whole { length why.now.links.items ≡ length why.now.profile.chain.steps.items }
@@ -135,7 +135,7 @@ fn chain_table(alloc: Global, names: &Names, why: &Why) -> Result<Table, AllocEr
     Ok(table)
 }
 
-/// The chain, a line for each step.
+/// Returns the chain, a line for each step.
 pub(crate) fn chain_text(alloc: Global, names: &Names, why: &Why) -> Result<Vec<u8>, AllocError>
     requires there { All (λ s. s.row < length why.now.profile.starts.items) why.now.profile.chain.steps.items }
     requires whole { length why.now.links.items ≡ length why.now.profile.chain.steps.items }

@@ -21,10 +21,10 @@ use boc_text::put_number;
 use boc_why::{Link, Why};
 use std::alloc::{AllocError, Global};
 
-// So many steps of one def that follow each other, or more, stand in one line.
+// The given number of steps of one def that follow each other, or more, are in one line.
 const LEAST_FOLDED: usize = 4;
 
-// The def of a step's row, and 0 where it has none.
+// Returns the def of a step's row, and 0 where it has none.
 fn def_of(names: &Names, step: ChainStep) -> u32
     ensures { result ≡ def_of names.now.defs.items step.row }
 {
@@ -34,7 +34,7 @@ fn def_of(names: &Names, step: ChainStep) -> u32
     }
 }
 
-// How many steps from the first on are of one def.
+// Returns how many steps from the first on are of one def.
 fn stretch_len(names: &Names, steps: &[ChainStep]) -> usize
     requires { 0 < length steps.now }
     ensures some { 0 < result }
@@ -49,7 +49,7 @@ fn stretch_len(names: &Names, steps: &[ChainStep]) -> usize
     end
 }
 
-// Whether a link is a spawn.
+// Returns whether a link is a spawn.
 fn is_spawn(link: &Link) -> bool
     ensures { result ≡ is_spawn link.now }
 {
@@ -59,14 +59,14 @@ fn is_spawn(link: &Link) -> bool
     }
 }
 
-// How many of some links are spawns.
+// Returns how many of some links are spawns.
 fn spawn_count(links: &[Link]) -> usize
     ensures { result ≡ count_by is_spawn links.now }
 {
     links.iter().filter(|link| is_spawn(link)).count()
 }
 
-// Whether a link hands cowns on.
+// Returns whether a link hands cowns on.
 fn is_hand(link: &Link) -> bool
     ensures { result ≡ is_hand link.now }
 {
@@ -76,14 +76,14 @@ fn is_hand(link: &Link) -> bool
     }
 }
 
-// How many of some links hand cowns on.
+// Returns how many of some links hand cowns on.
 fn hand_count(links: &[Link]) -> usize
     ensures { result ≡ count_by is_hand links.now }
 {
     links.iter().filter(|link| is_hand(link)).count()
 }
 
-// Whether a link hands on this cown too, if it hands on any.
+// Returns whether a link hands on this cown too, if it hands on any.
 fn hands_too(link: &Link, cown: HeldCown) -> bool
     ensures { result ≡ hands_too cown link.now }
 {
@@ -93,14 +93,14 @@ fn hands_too(link: &Link, cown: HeldCown) -> bool
     }
 }
 
-// Whether all of some links that hand cowns on hand on this one.
+// Returns whether all of some links that hand cowns on hand on this one.
 fn all_hand(links: &[Link], cown: HeldCown) -> bool
     ensures { result ≡ list_all (hands_too cown) links.now }
 {
     links.iter().all(|link| hands_too(link, cown))
 }
 
-// Those of some cowns that all of some links hand on, if they hand on any.
+// Returns those of some cowns that all of some links hand on, if they hand on any.
 fn kept_by(alloc: Global, cowns: &[HeldCown], links: &[Link]) -> Result<Vec<HeldCown>, AllocError>
     ensures { IfOk result (λ kept. kept.items ≡ filter (λ c. list_all (hands_too c) links.now) cowns.now) }
 {
@@ -113,7 +113,7 @@ fn kept_by(alloc: Global, cowns: &[HeldCown], links: &[Link]) -> Result<Vec<Held
     Ok(kept)
 }
 
-// The cowns that all of some links hand on, those links left out of account that hand on none.
+// Returns the cowns that all of some links hand on, those links left out of account that hand on none.
 fn common_cowns(alloc: Global, links: &[Link]) -> Result<Vec<HeldCown>, AllocError>
     ensures { IfOk result (λ cowns. cowns.items ≡ common links.now) }
 {
@@ -127,7 +127,7 @@ fn common_cowns(alloc: Global, links: &[Link]) -> Result<Vec<HeldCown>, AllocErr
     Ok(Vec::new(alloc))
 }
 
-// Puts cowns by their names behind a text, with a blank in front of them, where there are some.
+// Appends cowns by their names to a text, with a blank before them, where there are some.
 fn put_behind_blank(
     text: &mut Vec<u8>,
     names: &[Vec<u8>],
@@ -142,7 +142,7 @@ fn put_behind_blank(
     put_handed(text, names, cowns)
 }
 
-// Puts how many rows hand on behind a text, and what they all hand on.
+// Appends to a text how many rows hand on, and what they all hand on.
 fn put_hands(
     alloc: Global,
     text: &mut Vec<u8>,
@@ -159,7 +159,7 @@ fn put_hands(
     put_behind_blank(text, &names.cowns, &common)
 }
 
-// Puts how many rows spawn the next one behind a text, with these bytes in front, where some do.
+// Appends to a text how many rows spawn the next one, with these bytes in front, where some do.
 fn put_spawns(text: &mut Vec<u8>, front: &[u8], spawns: usize) -> Result<(), AllocError>
     ensures { OnOk result (text.new.items ≡ text.old.items ++ flat_map (λ told. front.now ++ told) (spawns_texts spawns)) }
 {
@@ -172,7 +172,7 @@ fn put_spawns(text: &mut Vec<u8>, front: &[u8], spawns: usize) -> Result<(), All
     Ok(())
 }
 
-// What some rows do, each before the next one of them goes on.
+// Returns what some rows do, each before the next one of them goes on.
 fn inner_text(alloc: Global, names: &Names, links: &[Link]) -> Result<Vec<u8>, AllocError>
     ensures { IfOk result (λ text. text.items ≡ inner_text names.now links.now) }
 {
@@ -188,7 +188,7 @@ fn inner_text(alloc: Global, names: &Names, links: &[Link]) -> Result<Vec<u8>, A
     Ok(text)
 }
 
-// What the rows of a stretch do, whose links these are: those before the last, and the last, behind which is `next`.
+// Returns what the rows of a stretch do, whose links these are: those before the last, and the last, after which is `next`.
 fn stretch_then(
     alloc: Global,
     names: &Names,
@@ -205,7 +205,7 @@ fn stretch_then(
     Ok(text)
 }
 
-// The numbers of the first row of a stretch and of the last.
+// Returns the numbers of the first row of a stretch and of the last.
 fn rows_text(alloc: Global, first: u32, last: u32) -> Result<Vec<u8>, AllocError>
     ensures { IfOk result (λ text. text.items ≡ rows_text first last) }
 {
@@ -215,7 +215,7 @@ fn rows_text(alloc: Global, first: u32, last: u32) -> Result<Vec<u8>, AllocError
     Ok(text)
 }
 
-// How many ticks some steps weigh.
+// Returns how many ticks some steps weigh.
 fn ticks_of(steps: &[ChainStep]) -> u64
     requires { weight_of steps.now < 2 ^ 64 }
     ensures { result ≡ weight_of steps.now }
@@ -227,7 +227,7 @@ fn ticks_of(steps: &[ChainStep]) -> u64
     ticks
 }
 
-// How many rows there are, and the def of the first of them.
+// Returns how many rows there are, and the def of the first of them.
 fn behaviours_text(
     alloc: Global,
     names: &Names,
@@ -243,7 +243,7 @@ fn behaviours_text(
     Ok(text)
 }
 
-// Puts the line of the first steps of a chain, so many of them.
+// Puts the line of the first steps of a chain, this many of them.
 fn put_folded(
     alloc: Global,
     table: &mut Table,
@@ -275,7 +275,7 @@ fn put_folded(
     Ok(())
 }
 
-// Puts the lines of the first steps of a chain, so many of them, which are of one def: one line, or, if they are few, one for each.
+// Puts the lines of the first steps of a chain, this many of them, which are of one def: one line, or, if they are few, one for each.
 fn put_stretch(
     alloc: Global,
     table: &mut Table,
@@ -303,7 +303,7 @@ fn put_stretch(
     Ok(())
 }
 
-// Puts the lines of the steps of a chain, those of one def that follow each other together, and the tick at which all is over.
+// Puts the lines of the steps of a chain, those of one def that follow each other together, and the tick at which all has ended.
 fn put_stretches(
     alloc: Global,
     table: &mut Table,
@@ -333,7 +333,7 @@ fn put_stretches(
     Ok(())
 }
 
-// The table of the chain, folded.
+// Returns the table of the chain, folded.
 fn folded_table(alloc: Global, names: &Names, why: &Why) -> Result<Table, AllocError>
     requires there { All (λ s. s.row < length why.now.profile.starts.items) why.now.profile.chain.steps.items }
     requires whole { length why.now.links.items ≡ length why.now.profile.chain.steps.items }
@@ -358,7 +358,7 @@ fn folded_table(alloc: Global, names: &Names, why: &Why) -> Result<Table, AllocE
     Ok(table)
 }
 
-/// The chain, in which four or more steps of one def that follow each other stand in one line.
+/// Returns the chain, in which four or more steps of one def that follow each other are in one line.
 pub(crate) fn folded_text(alloc: Global, names: &Names, why: &Why) -> Result<Vec<u8>, AllocError>
     requires there { All (λ s. s.row < length why.now.profile.starts.items) why.now.profile.chain.steps.items }
     requires whole { length why.now.links.items ≡ length why.now.profile.chain.steps.items }

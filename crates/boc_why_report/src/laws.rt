@@ -1,4 +1,4 @@
-// Laws: what is told has one text.
+// Laws: what is reported has one text.
 
 ghost use Rattle.std.specs.Prelude.{◌≡◌, Bool};
 ghost use Rattle.boc_plans.specs.declared.sharing.Sharing.{Sharing};
@@ -10,13 +10,13 @@ ghost use Rattle.boc_why_report.specs.declared.short.Outcome.{Outcome};
 ghost use Rattle.boc_why_report.specs.ShortTexts.{ComeToTheSame, short_text};
 ghost use Rattle.boc_why_report.specs.WhyTexts.{IsWhyText};
 
-/// Whys that say the same have one text, in names that call everything the same.
+/// Proves that whys that say the same have one text, in names that call everything the same.
 pub fn why_has_one_text()
     ensures { (names other_names : Names) (sharing : Sharing) (all : Bool) (why other : Why) (text other_text : Text) → CallTheSame names other_names
         → SayTheSame why other → IsWhyText names sharing all why text → IsWhyText other_names sharing all other other_text → text ≡ other_text }
 {}
 
-/// Rows that come to the same before and after they change have one short text, in names that call everything the same.
+/// Proves that rows that take the same before and after they change have one short text, in names that call everything the same.
 pub fn change_has_one_text()
     ensures { (names other_names : Names) (was now was_too now_too : Outcome) → CallTheSame names other_names → ComeToTheSame was was_too
         → ComeToTheSame now now_too → short_text names was now ≡ short_text other_names was_too now_too }

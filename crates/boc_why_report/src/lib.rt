@@ -1,4 +1,4 @@
-//! What is told of why some rows take as long as they do, in the names of their program.
+//! What is reported of why some rows take as long as they do, in the names of their program.
 #![tactic(auto)]
 
 mod chain;

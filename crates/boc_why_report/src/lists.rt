@@ -1,4 +1,4 @@
-// The shares of a chain, and what would bring its end forward.
+// The shares of a chain, and what would move its end forward.
 
 ghost use Rattle.std.specs.Prelude.{◌≡◌, ◌++◌, ◌<◌, All, length, map, take, IfOk, OnOk};
 ghost use Rattle.boc_why_report.specs.declared.lists.TheConstants.{MOST_LISTED};
@@ -13,13 +13,13 @@ use boc_text::put_number;
 use boc_why::{Candidate, Link, Share, Why};
 use std::alloc::{AllocError, Global};
 
-// The most lines of a list. How many more there are is told on a line behind them.
+// The most lines of a list. How many more there are is reported on a line after them.
 const MOST_LISTED: usize = 20;
 
 // The sides of a list's columns.
 const LIST_SIDES: [Side; 3] = [Side::Left, Side::Right, Side::Right];
 
-// The sides of the columns of two lists beside each other.
+// The sides of the columns of two lists with each other.
 const SHARES_SIDES: [Side; 7] = [
     Side::Left,
     Side::Right,
@@ -38,7 +38,7 @@ struct Line {
     second: Vec<u8>,
 }
 
-// A name in a list, and two numbers.
+// Returns a name in a list, and two numbers.
 fn entry(alloc: Global, name: &[u8], first: u64, second: u64) -> Result<Line, AllocError>
     ensures { IfOk result (λ line. texts_of_line line ≡ entry_texts name.now first second) }
 {
@@ -52,7 +52,7 @@ fn entry(alloc: Global, name: &[u8], first: u64, second: u64) -> Result<Line, Al
     })
 }
 
-// The line behind a list that says how many more there are.
+// Returns the line after a list that says how many more there are.
 fn more(alloc: Global, count: usize) -> Result<Line, AllocError>
     ensures { IfOk result (λ line. texts_of_line line ≡ more_texts count) }
 {
@@ -67,7 +67,7 @@ fn more(alloc: Global, count: usize) -> Result<Line, AllocError>
     })
 }
 
-// Puts how many more there are behind the first lines of a list of so many, where it has more.
+// Puts how many more there are after the first lines of a list of this many, where it has more.
 fn put_more(alloc: Global, lines: &mut Vec<Line>, count: usize) -> Result<(), AllocError>
     ensures { OnOk result (map texts_of_line lines.new.items ≡ map texts_of_line lines.old.items ++ more_line count) }
 {
@@ -77,14 +77,14 @@ fn put_more(alloc: Global, lines: &mut Vec<Line>, count: usize) -> Result<(), Al
     Ok(())
 }
 
-// Those of some shares that are told: the first.
+// Returns those of some shares that are reported: the first.
 fn first_shares(shares: &[Share]) -> &[Share]
     ensures { result.now ≡ take MOST_LISTED shares.now }
 {
     &shares[..shares.len().min(MOST_LISTED)]
 }
 
-// The lines of the shares by def, at most so many.
+// Returns the lines of the shares by def, at most this many.
 fn def_lines(alloc: Global, names: &Names, shares: &[Share]) -> Result<Vec<Line>, AllocError>
     ensures { IfOk result (λ lines. map texts_of_line lines.items ≡ at_most (def_lines names.now shares.now)) }
 {
@@ -98,7 +98,7 @@ fn def_lines(alloc: Global, names: &Names, shares: &[Share]) -> Result<Vec<Line>
     Ok(lines)
 }
 
-// The line of a share of a link.
+// Returns the line of a share of a link.
 fn link_line(alloc: Global, names: &Names, links: &[Link], share: Share) -> Result<Line, AllocError>
     requires { share.key < length links.now }
     ensures { IfOk result (λ line. texts_of_line line ≡ link_share_texts names.now links.now share) }
@@ -107,7 +107,7 @@ fn link_line(alloc: Global, names: &Names, links: &[Link], share: Share) -> Resu
     entry(alloc, &name, share.ticks, u64::from(share.steps))
 }
 
-// The lines of the shares by link, at most so many.
+// Returns the lines of the shares by link, at most this many.
 fn link_lines(
     alloc: Global,
     names: &Names,
@@ -126,7 +126,7 @@ fn link_lines(
     Ok(lines)
 }
 
-// The lines of what would bring the end forward, at most so many.
+// Returns the lines of what would move the end forward, at most this many.
 fn candidate_lines(
     alloc: Global,
     names: &Names,
@@ -146,7 +146,7 @@ fn candidate_lines(
     Ok(lines)
 }
 
-// Puts the lines of two lists beside each other.
+// Puts the lines of two lists with each other.
 fn put_beside(table: &mut Table, left: &[Line], right: &[Line]) -> Result<(), AllocError>
     requires { length table.old.sides ≡ 7 }
     ensures { OnOk result (table.new ≡ record table.old {
@@ -179,7 +179,7 @@ fn put_beside(table: &mut Table, left: &[Line], right: &[Line]) -> Result<(), Al
     }
 }
 
-// The table of the shares by def, and beside them those by link.
+// Returns the table of the shares by def, and next to them those by link.
 fn shares_table(alloc: Global, names: &Names, why: &Why) -> Result<Table, AllocError>
     requires { All (λ s. s.key < length why.now.links.items) why.now.by_link.items }
     ensures sides { IfOk result (λ table. table.sides ≡ shares_sides) }
@@ -201,7 +201,7 @@ fn shares_table(alloc: Global, names: &Names, why: &Why) -> Result<Table, AllocE
     Ok(table)
 }
 
-/// Puts the shares by def behind a text, and beside them those by link.
+/// Appends the shares by def to a text, and next to them those by link.
 pub(crate) fn put_shares(
     alloc: Global,
     text: &mut Vec<u8>,
@@ -226,7 +226,7 @@ fn put_lines(table: &mut Table, lines: &[Line]) -> Result<(), AllocError>
     Ok(())
 }
 
-/// Puts what would bring the end forward behind a text.
+/// Appends to a text what would move the end forward.
 pub(crate) fn put_candidates(
     alloc: Global,
     text: &mut Vec<u8>,

@@ -1,4 +1,4 @@
-// What is told in short of some rows before and after they change.
+// What is reported in short of some rows before and after they change.
 
 ghost use Rattle.std.specs.Prelude.{◌≡◌, ◌++◌, ◌∷◌, [], codes, decimal, length, IfOk, OnOk};
 ghost use Rattle.boc_why_report.specs.ShortTexts.{chain_line, change_text, end_texts, greedy_texts, heaviest_text, more_shares, share_text, short_lines};
@@ -11,7 +11,7 @@ use boc_text::put_number;
 use boc_why::Share;
 use std::alloc::{AllocError, Global};
 
-/// What some rows come to. All numbers are ticks.
+/// What some rows take. All numbers are ticks.
 #[derive(Drop, Debug)]
 pub struct Outcome {
     /// The ticks of all rows together.
@@ -24,13 +24,13 @@ pub struct Outcome {
     pub by_def: Vec<Share>,
 }
 
-// How many shares of a chain are told behind the first. Two dots stand for the others.
+// How many shares of a chain are reported after the first. Two dots stand for the others.
 const MOST_MORE: usize = 2;
 
 // The sides of the columns.
 const SHORT_SIDES: [Side; 4] = [Side::Left, Side::Right, Side::Right, Side::Right];
 
-// A number behind a sign.
+// Returns a number after a sign.
 fn signed(alloc: Global, sign: u8, by: u64) -> Result<Vec<u8>, AllocError>
     ensures { IfOk result (λ text. text.items ≡ (sign ∷ []) ++ decimal by) }
 {
@@ -96,7 +96,7 @@ fn put_greedy(
     }
 }
 
-// The table of the numbers.
+// Returns the table of the numbers.
 fn short_table(alloc: Global, was: &Outcome, now: &Outcome) -> Result<Table, AllocError>
     ensures sides { IfOk result (λ table. table.sides ≡ short_sides) }
     ensures lines { IfOk result (λ table. table.lines ≡ short_lines was.now now.now) }
@@ -109,7 +109,7 @@ fn short_table(alloc: Global, was: &Outcome, now: &Outcome) -> Result<Table, All
     Ok(table)
 }
 
-// Puts a share of a chain behind a text.
+// Appends a share of a chain to a text.
 fn put_share(text: &mut Vec<u8>, names: &Names, share: Share) -> Result<(), AllocError>
     ensures { OnOk result (text.new.items ≡ text.old.items ++ share_text names.now share) }
 {
@@ -118,7 +118,7 @@ fn put_share(text: &mut Vec<u8>, names: &Names, share: Share) -> Result<(), Allo
     put_number(text, share.ticks)
 }
 
-// Puts shares behind others, at most so many.
+// Appends shares to others, at most this many.
 fn put_more(
     text: &mut Vec<u8>,
     names: &Names,
@@ -141,7 +141,7 @@ fn put_more(
     }
 }
 
-// Puts the shares of a chain that weigh most behind a text.
+// Appends the shares of a chain that weigh most to a text.
 fn put_heaviest(text: &mut Vec<u8>, names: &Names, shares: &[Share]) -> Result<(), AllocError>
     ensures { OnOk result (text.new.items ≡ text.old.items ++ heaviest_text names.now shares.now) }
 {
@@ -154,7 +154,7 @@ fn put_heaviest(text: &mut Vec<u8>, names: &Names, shares: &[Share]) -> Result<(
     }
 }
 
-// Puts the line of the chain behind a text.
+// Appends the line of the chain to a text.
 fn put_chain(
     text: &mut Vec<u8>,
     names: &Names,
@@ -170,8 +170,8 @@ fn put_chain(
     text.extend_from_slice(b"\n")
 }
 
-/// What is told in short of some rows before and after they change: their work, their span and the greedy plan's end, where both have one, and by how much
-/// these two change; and the defs that weigh most on the chain before and after, with their ticks. Defs have these names. All numbers are ticks.
+/// Returns what is reported in short of some rows before and after they change: their work, their span and the greedy plan's end, where both have one, and by
+/// how much these two change; and the defs that weigh most on the chain before and after, with their ticks. Defs have these names. All numbers are ticks.
 /// `AllocError` says that memory was refused.
 pub fn short_text(
     alloc: Global,

@@ -1,4 +1,4 @@
-// All that is told.
+// All that is reported.
 
 ghost use Rattle.std.specs.Prelude.{◌≡◌, ◌++◌, ◌<◌, All, length, IfOk, OnOk};
 ghost use Rattle.boc_plans.specs.Chains.{weight_of};
@@ -10,12 +10,13 @@ use crate::chain::chain_text;
 use crate::folded::folded_text;
 use crate::lists::{put_candidates, put_shares};
 use boc_names::{Names, text_at};
+use boc_order::{Busiest, Least};
 use boc_plans::sharing::Sharing;
 use boc_text::put_number;
-use boc_why::{Busiest, Least, Why};
+use boc_why::Why;
 use std::alloc::{AllocError, Global};
 
-// Puts the numbers at the head behind a text.
+// Appends the numbers at the head to a text.
 fn put_head(text: &mut Vec<u8>, why: &Why) -> Result<(), AllocError>
     ensures { OnOk result (text.new.items ≡ text.old.items ++ head_text why.now) }
 {
@@ -29,7 +30,7 @@ fn put_head(text: &mut Vec<u8>, why: &Why) -> Result<(), AllocError>
     Ok(())
 }
 
-// What a cown is busy with.
+// Returns what a cown is busy with.
 fn busy_text(sharing: Sharing) -> &'static str
     ensures { result.now ≡ busy_text sharing }
 {
@@ -39,7 +40,7 @@ fn busy_text(sharing: Sharing) -> &'static str
     }
 }
 
-// Puts a tick from which on a cown is busy behind a text.
+// Appends a tick from which on a cown is busy to a text.
 fn put_tick(text: &mut Vec<u8>, tick: u64) -> Result<(), AllocError>
     ensures { OnOk result (text.new.items ≡ text.old.items ++ tick_text tick) }
 {
@@ -49,7 +50,7 @@ fn put_tick(text: &mut Vec<u8>, tick: u64) -> Result<(), AllocError>
     Ok(())
 }
 
-// Puts the tick from which on a cown is busy behind a text, where it isn't busy from the start on.
+// Appends the tick from which on a cown is busy to a text, where it isn't busy from the start on.
 fn put_from(text: &mut Vec<u8>, from: Option<u64>) -> Result<(), AllocError>
     ensures { OnOk result (text.new.items ≡ text.old.items ++ from_text from) }
 {
@@ -59,7 +60,7 @@ fn put_from(text: &mut Vec<u8>, from: Option<u64>) -> Result<(), AllocError>
     }
 }
 
-// Puts for how long a cown is busy behind a text, and from when on.
+// Appends to a text for how long a cown is busy, and from when on.
 fn put_busy(
     text: &mut Vec<u8>,
     names: &Names,
@@ -75,7 +76,7 @@ fn put_busy(
     put_from(text, busiest.from)
 }
 
-// Puts why no order ends sooner behind a text.
+// Appends to a text why no order ends sooner.
 fn put_reason(
     text: &mut Vec<u8>,
     names: &Names,
@@ -91,7 +92,7 @@ fn put_reason(
     }
 }
 
-// Puts the tick before which no order of the cowns ends behind a text.
+// Appends the tick before which no order of the cowns ends to a text.
 fn put_bound(text: &mut Vec<u8>, tick: u64) -> Result<(), AllocError>
     ensures { OnOk result (text.new.items ≡ text.old.items ++ bound_text tick) }
 {
@@ -101,7 +102,7 @@ fn put_bound(text: &mut Vec<u8>, tick: u64) -> Result<(), AllocError>
     Ok(())
 }
 
-/// Puts the line of the tick before which no order of the cowns ends behind a text: a lower bound, with the cown that is busy until then, or the spawns.
+/// Appends the line of the tick before which no order of the cowns ends to a text: a lower bound, with the cown that is busy until then, or the spawns.
 /// `AllocError` says that memory was refused.
 pub fn put_least(
     text: &mut Vec<u8>,
@@ -116,7 +117,7 @@ pub fn put_least(
     text.extend_from_slice(b")\n")
 }
 
-// The chain: all of its lines, or folded.
+// Returns the chain: all of its lines, or folded.
 fn told_chain(alloc: Global, names: &Names, all: bool, why: &Why) -> Result<Vec<u8>, AllocError>
     requires there { All (λ s. s.row < length why.now.profile.starts.items) why.now.profile.chain.steps.items }
     requires whole { length why.now.links.items ≡ length why.now.profile.chain.steps.items }
@@ -130,7 +131,7 @@ fn told_chain(alloc: Global, names: &Names, all: bool, why: &Why) -> Result<Vec<
     }
 }
 
-// All that is told, with this chain.
+// Returns all that is reported, with this chain.
 fn told_with(
     alloc: Global,
     names: &Names,
@@ -152,9 +153,9 @@ fn told_with(
     Ok(text)
 }
 
-/// What is told of why some rows take as long as they do: their work and their span; the chain that holds them back, step by step, with what each row
-/// hands on; its ticks by def and by link; what would bring the end forward; and a lower bound for any order on the cowns. All times are
-/// ticks. Where not all of the chain is asked for, four or more steps of one def that follow each other stand in one line. Each row of the chain has
+/// Returns what is reported of why some rows take as long as they do: their work and their span; the chain that holds them back, step by step, with what each
+/// row hands on; its ticks by def and by link; what would move the end forward; and a lower bound for any order on the cowns. All times are
+/// ticks. Where not all of the chain is requested, four or more steps of one def that follow each other are in one line. Each row of the chain has
 /// to have a start, each step its link, and each share by link the place of one; and the chain's ticks have to add up to the span. `AllocError` says
 /// that memory was refused.
 pub fn why_text(
@@ -174,8 +175,8 @@ pub fn why_text(
     told_with(alloc, names, sharing, why, &chain)
 }
 
-/// Puts the line of a greedy plan for so many workers behind a text: the tick at which it ends, and the one by which it has ended. `AllocError` says that
-/// memory was refused.
+/// Appends the line of a greedy plan for the given number of workers to a text: the tick at which it ends, and the one by which it has ended. `AllocError` says
+/// that memory was refused.
 pub fn put_greedy_line(
     text: &mut Vec<u8>,
     workers: u64,

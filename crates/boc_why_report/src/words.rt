@@ -12,7 +12,7 @@ use boc_text::put_number;
 use boc_why::{Link, Remedy};
 use std::alloc::{AllocError, Global};
 
-// Puts cowns behind others, by their names.
+// Appends cowns to others, by their names.
 fn put_more_handed(
     text: &mut Vec<u8>,
     names: &[Vec<u8>],
@@ -30,7 +30,7 @@ fn put_more_handed(
     }
 }
 
-/// Puts cowns that are handed on behind a text, by their names.
+/// Appends to a text cowns that are handed on, by their names.
 pub(crate) fn put_handed(
     text: &mut Vec<u8>,
     names: &[Vec<u8>],
@@ -47,7 +47,7 @@ pub(crate) fn put_handed(
     }
 }
 
-/// What a link is called.
+/// Returns what a link is called.
 pub(crate) fn link_text(alloc: Global, names: &Names, link: &Link) -> Result<Vec<u8>, AllocError>
     ensures { IfOk result (λ text. text.items ≡ link_text names.now link.now) }
 {
@@ -63,7 +63,7 @@ pub(crate) fn link_text(alloc: Global, names: &Names, link: &Link) -> Result<Vec
     Ok(text)
 }
 
-// Puts the row that goes on behind a text.
+// Appends to a text the row that goes on.
 fn put_next(text: &mut Vec<u8>, word: &str, next: ChainStep) -> Result<(), AllocError>
     ensures { OnOk result (text.new.items ≡ text.old.items ++ word.now ++ decimal next.row) }
 {
@@ -71,7 +71,7 @@ fn put_next(text: &mut Vec<u8>, word: &str, next: ChainStep) -> Result<(), Alloc
     put_number(text, u64::from(next.row))
 }
 
-/// What a row of a chain does before the next one goes on.
+/// Returns what a row of a chain does before the next one goes on.
 pub(crate) fn then_text(
     alloc: Global,
     names: &Names,
@@ -94,7 +94,7 @@ pub(crate) fn then_text(
     Ok(text)
 }
 
-/// What a remedy is called.
+/// Returns what a remedy is called.
 pub(crate) fn remedy_text(
     alloc: Global,
     names: &Names,

@@ -7,7 +7,7 @@ use Rattle.boc_plans.specs.declared.chain.ChainStep.{ChainStep}
 use Rattle.boc_plans.specs.declared.chain.Via.TheVariants.{Spawn, Order, Last}
 use Rattle.boc_plans.specs.declared.sharing.Sharing.TheVariants.{Exclusive, SharedReads}
 use Rattle.boc_plans.specs.Seen.{seen}
-use Rattle.boc_why.specs.Least.{load_of}
+use Rattle.boc_order.specs.Least.{load_of}
 use Rattle.boc_cowns.specs.Hot.{chain_through, hands_cown, rows_that_wrote, rows_with, step_hands, wait_of, waited_for}
 
 abbrev row : ℕ → List ℕ → List ℕ → ℕ → Row

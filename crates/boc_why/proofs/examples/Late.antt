@@ -4,8 +4,8 @@ use Rattle.std.proofs.Common.{◌≡◌, ℕ, zero, suc, ◌<◌, ◌≤◌, Lis
 use Rattle.boc_program.specs.declared.body.EndStatus.TheVariants.{Done}
 use Rattle.boc_runs.specs.declared.rows.Row.{Row}
 use Rattle.boc_plans.specs.Plans.{start_of}
-use Rattle.boc_why.specs.declared.least.Busiest.{Busiest}
-use Rattle.boc_why.specs.Least.{IsBusy, tick_of, wrote_cown}
+use Rattle.boc_order.specs.declared.least.Busiest.{Busiest}
+use Rattle.boc_order.specs.Least.{IsBusy, tick_of, wrote_cown}
 
 abbrev row : ℕ → List ℕ → ℕ → Row
 row offset cowns ticks = record {

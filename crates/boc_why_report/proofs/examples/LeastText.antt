@@ -4,7 +4,7 @@ use Rattle.std.specs.Fmt.{digits}
 use Rattle.boc_plans.specs.declared.sharing.Sharing.TheVariants.{Exclusive, SharedReads}
 use Rattle.boc_names.specs.declared.names.Names.{Names}
 use Rattle.boc_names.specs.Names.{texts_of}
-use Rattle.boc_why.specs.declared.least.Busiest.{Busiest}
+use Rattle.boc_order.specs.declared.least.Busiest.{Busiest}
 use Rattle.boc_why_report.specs.WhyTexts.{from_text, least_text}
 
 abbrev pricer : Busiest

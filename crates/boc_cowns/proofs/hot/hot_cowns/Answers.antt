@@ -1,7 +1,7 @@
 use Rattle.std.proofs.Common.{◌∙◌, length, refl}
-use Rattle.boc_why.specs.Least.{wrote_cown}
-use Rattle.boc_why.proofs.LeastBusy.{busiest_is, until_low}
-use Rattle.boc_why.proofs.LeastSpawns.{length-bare}
+use Rattle.boc_order.specs.Least.{wrote_cown}
+use Rattle.boc_order.proofs.LeastBusy.{busiest_is, until_low}
+use Rattle.boc_order.proofs.LeastSpawns.{length-bare}
 use Rattle.boc_cowns.specs.Hot.{has_cown}
 use Rattle.boc_cowns.proofs.Parts.{held_low, hot_is, rows_few, span_some}
 use Rattle.boc_cowns.proofs.Sums.{counts_few}

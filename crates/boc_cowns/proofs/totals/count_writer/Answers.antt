@@ -1,7 +1,7 @@
 use Rattle.std.proofs.Common.{ap, arith, refl}
 use Rattle.std.specs.Prelude.{nat_eq}
 use Rattle.std.specs.List.{list_any}
-use Rattle.boc_why.specs.Least.{wrote_cown}
+use Rattle.boc_order.specs.Least.{wrote_cown}
 use Rattle.boc_cowns.specs.Hot.{one}
 use Rattle.boc_cowns.proofs.Sums.{sums_more}
 use Rattle.boc_cowns.proofs.totals.count_writer.Goals as goal

@@ -1,5 +1,5 @@
 use Rattle.std.proofs.Common.{length, arith}
-use Rattle.boc_why.specs.Least.{wrote_cown}
+use Rattle.boc_order.specs.Least.{wrote_cown}
 use Rattle.boc_cowns.specs.Hot.{one}
 use Rattle.boc_cowns.proofs.Sums.{sums_all}
 use Rattle.boc_cowns.proofs.totals.writer_counts.Goals as goal

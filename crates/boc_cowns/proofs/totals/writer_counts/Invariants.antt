@@ -1,4 +1,4 @@
-use Rattle.boc_why.specs.Least.{wrote_cown}
+use Rattle.boc_order.specs.Least.{wrote_cown}
 use Rattle.boc_cowns.specs.Hot.{one}
 use Rattle.boc_cowns.specs.Columns.{AreSums}
 use Rattle.boc_cowns.proofs.totals.writer_counts.Given as goal

@@ -1,5 +1,5 @@
 use Rattle.std.proofs.Common.{◌++◌, ◌∙◌, ap, codes, decimal}
-use Rattle.boc_why.specs.Least.{start_or_0}
+use Rattle.boc_order.specs.Least.{start_or_0}
 use Rattle.boc_cowns_report.specs.CownsTexts.{part_text}
 use Rattle.boc_cowns_report.proofs.Texts.{regroup}
 use Rattle.boc_cowns_report.proofs.verdict.put_late.Goals as goal

@@ -1,7 +1,7 @@
 use Rattle.std.proofs.Common.{◌≡◌, ℕ, List, Bool, true, false, ◌+◌, ◌∙◌, take, length, sym, ap, subst, Some}
 use Rattle.std.specs.Prelude.{slice_get}
 use Rattle.std.specs.List.{range_with_len}
-use Rattle.boc_why.proofs.LinkHanded.{AreThose}
+use Rattle.boc_order.proofs.HandedCowns.{AreThose}
 use Rattle.boc_why.proofs.RemedyMarks.{marks_all, marks_more, marks_same, read_marked, read_unmarked}
 use Rattle.boc_why.proofs.remedies.marked_places.Goals as goal
 use Rattle.boc_why.proofs.remedies.marked_places.Goals.{then-is_marked+in_ok-push, else-is_marked}

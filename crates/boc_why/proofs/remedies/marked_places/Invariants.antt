@@ -1,7 +1,7 @@
 use Rattle.std.proofs.Common.{◌≡◌, ℕ, length, take, Some, true}
 use Rattle.std.specs.Prelude.{slice_get}
 use Rattle.std.specs.List.{range_with_len}
-use Rattle.boc_why.proofs.LinkHanded.{AreThose}
+use Rattle.boc_order.proofs.HandedCowns.{AreThose}
 use Rattle.boc_why.proofs.remedies.marked_places.Given as goal
 
 -- those of the places so far that are marked

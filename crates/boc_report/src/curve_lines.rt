@@ -7,7 +7,7 @@ use boc_greedy::CurvePoint;
 use boc_text::put_number;
 use std::alloc::{AllocError, Global};
 
-/// The text of a curve: the work, the span, and a line for each point, with the number of workers, the end of their greedy plan, the tick
+/// Returns the text of a curve: the work, the span, and a line for each point, with the number of workers, the end of their greedy plan, the tick
 /// before which no plan of theirs ends, and the tick by which the greedy one has ended. All but the workers are ticks. `AllocError` says
 /// that memory was refused.
 pub fn curve_text(
@@ -25,7 +25,7 @@ pub fn curve_text(
     Ok(text)
 }
 
-// A line of a word and a number.
+// Writes a line of a word and a number.
 fn put_line(text: &mut Vec<u8>, word: &[u8], number: u64) -> Result<(), AllocError>
     ensures { OnOk result (text.new.items ≡ text.old.items ++ number_line word.now number) }
 {
@@ -35,7 +35,7 @@ fn put_line(text: &mut Vec<u8>, word: &[u8], number: u64) -> Result<(), AllocErr
     Ok(())
 }
 
-// The lines of the points.
+// Writes the lines of the points.
 fn put_points(text: &mut Vec<u8>, points: &[CurvePoint]) -> Result<(), AllocError>
     ensures { OnOk result (text.new.items ≡ text.old.items ++ curve_lines points.now) }
 {
@@ -48,7 +48,7 @@ fn put_points(text: &mut Vec<u8>, points: &[CurvePoint]) -> Result<(), AllocErro
     }
 }
 
-// The line of a point.
+// Writes the line of a point.
 fn put_point(text: &mut Vec<u8>, point: &CurvePoint) -> Result<(), AllocError>
     ensures { OnOk result (text.new.items ≡ text.old.items ++ curve_line point.now) }
 {

@@ -1,27 +1,23 @@
 // The greedy part of a report.
 
-ghost use Rattle.std.specs.Prelude.{◌≡◌, ◌++◌, ◌+◌, ◌*◌, ◌<◌, ◌≤◌, ◌^◌, Some, codes, drop, length, OnOk};
+ghost use Rattle.std.specs.Prelude.{◌≡◌, ◌++◌, ◌+◌, ◌*◌, ◌<◌, ◌≤◌, ◌^◌, Some, codes, drop, length, slice_index, OnOk};
 ghost use Rattle.boc_report.specs.Texts.{bound_line, number_line, served_line, served_lines, served_text};
 ghost use Rattle.boc_text.specs.Outgoing.{Puts, size};
 ghost use Rattle.boc_text.specs.Streams.{CountsFailure};
 ghost use Rattle.boc_report.specs.Parts.{IsWhole, part_of};
-ghost use Rattle.boc_report.specs.declared.number_line.TheConstants.{MOST_LINES, MOST_PART, TOGETHER};
-ghost use Rattle.boc_report.specs.declared.greedy_lines.TheConstants.{MOST_FRAME, MOST_SERVED, SERVED_ROOM};
+ghost use Rattle.boc_report.specs.declared.number_line.TheConstants.{MOST_LINES, MOST_PART};
+ghost use Rattle.boc_report.specs.declared.greedy_lines.TheConstants.{MOST_FRAME};
+ghost use Rattle.boc_report.specs.declared.by_line.TheConstants.{MOST_LINE};
 
-use crate::number_line::{MOST_FIELD, TOGETHER, number_before, word_before};
+use crate::by_line::{Lines, put_lines};
+use crate::number_line::{MOST_FIELD, number_before, word_before};
 use boc_greedy::Greedy;
 use boc_text::{Outgoing, Sink, Stopped, write_before};
 
 /// The most bytes of the first line and of the last one.
 const MOST_FRAME: usize = 2 * MOST_FIELD + 10;
 
-/// The most bytes of the line of a row.
-const MOST_SERVED: usize = 4 * MOST_FIELD;
-
-/// The room in which lines of rows are formed that go out together.
-const SERVED_ROOM: usize = TOGETHER * MOST_SERVED;
-
-/// The greedy part of a report: the number of workers, each row with its worker, unless it is wanted without rows, and the end with its bound.
+/// Writes the greedy part of a report: the number of workers, each row with its worker, unless it is wanted without rows, and the end with its bound.
 pub(crate) fn put_greedy<W: Sink>(
     out: &mut Outgoing,
     greedy: &Greedy,
@@ -44,7 +40,7 @@ pub(crate) fn put_greedy<W: Sink>(
     out.put(&room[begin..], sink)
 }
 
-// The rows of a greedy plan, unless they are not wanted.
+// Writes the rows of a greedy plan, unless they are not wanted.
 fn put_rows<W: Sink>(
     out: &mut Outgoing,
     greedy: &Greedy,
@@ -57,74 +53,48 @@ fn put_rows<W: Sink>(
     requires failures { W.failures sink.old < u64.MAX }
     ensures goes_on { Puts (served_text unplanned greedy.now.starts.items greedy.now.ends.items greedy.now.workers.items) result out.old out.new
         (W.written sink.old) (W.written sink.new) }
-    ensures size { OnOk result (size out.new ≤ size out.old + MOST_SERVED * length greedy.now.starts.items) }
+    ensures size { OnOk result (size out.new ≤ size out.old + MOST_LINE * length greedy.now.starts.items) }
     ensures failures { CountsFailure result (W.failures sink.old) (W.failures sink.new) }
 {
     if unplanned {
         return Ok(());
     }
-    put_served(out, &greedy.starts, &greedy.ends, &greedy.workers, sink)
+    let rows = ServedRows {
+        starts: &greedy.starts,
+        ends: &greedy.ends,
+        workers: &greedy.workers,
+    };
+    put_lines(out, &rows, sink)
 }
 
-// The lines of the rows of a greedy plan. Those that go out together are formed in a room that all share.
-fn put_served<W: Sink>(
-    out: &mut Outgoing,
-    starts: &[u64],
-    ends: &[u64],
-    workers: &[u32],
-    sink: &mut W,
-) -> Result<(), Stopped>
-    requires ends { length starts.now ≡ length ends.now }
-    requires workers { length starts.now ≡ length workers.now }
-    requires few { length starts.now ≤ MOST_LINES }
-    requires size { size out.old ≤ 2 * MOST_PART }
-    requires failures { W.failures sink.old < u64.MAX }
-    ensures goes_on { Puts (served_lines 0 starts.now ends.now workers.now) result out.old out.new (W.written sink.old) (W.written sink.new) }
-    ensures size { OnOk result (size out.new ≤ size out.old + MOST_SERVED * length starts.now) }
-    ensures failures { CountsFailure result (W.failures sink.old) (W.failures sink.new) }
-{
-    let mut room = [0; SERVED_ROOM];
-    let mut first = 0;
-    while first < starts.len() {
-        let behind = starts.len().min(first + TOGETHER);
-        let begin = served_rows_before(
-            &mut room,
-            first,
-            &starts[first..behind],
-            &ends[first..behind],
-            &workers[first..behind],
-        );
-        out.put(&room[begin..], sink)?;
-        first = behind;
-    }
-    Ok(())
+// The rows of a greedy plan, a line for each.
+#[derive(Clone, Copy)]
+struct ServedRows<'a> {
+    starts: &'a [u64],
+    ends: &'a [u64],
+    workers: &'a [u32],
+    ghost same: { (length starts.now ≡ length ends.now) × (length starts.now ≡ length workers.now) },
 }
 
-// Forms the lines of rows of a greedy plan, of which the first has this number, at the end of a room, and says where they begin.
-fn served_rows_before(
-    room: &mut [u8],
-    first: usize,
-    starts: &[u64],
-    ends: &[u64],
-    workers: &[u32],
-) -> usize
-    requires room { length room.old ≡ SERVED_ROOM }
-    requires ends { length starts.now ≡ length ends.now }
-    requires workers { length starts.now ≡ length workers.now }
-    requires few { length starts.now ≤ TOGETHER }
-    requires numbers { first + length starts.now ≤ MOST_LINES }
-    ensures written { drop result room.new ≡ served_lines first starts.now ends.now workers.now }
-    ensures near { (result ≤ SERVED_ROOM) × (SERVED_ROOM ≤ result + MOST_SERVED * length starts.now) }
-    ensures long { length room.new ≡ SERVED_ROOM }
-{
-    let mut place = starts.len();
-    let mut begin = SERVED_ROOM;
-    while place > 0 {
-        place -= 1;
-        let row = (first + place) as u64;
-        begin = served_before(room, begin, row, starts[place], ends[place], workers[place]);
+impl Lines for ServedRows<'_> {
+    ghost count = { λ p. length p.starts.now };
+
+    ghost line = { λ p i. served_line i (slice_index p.starts.now i) (slice_index p.ends.now i) (slice_index p.workers.now i) };
+
+    fn len(&self) -> usize {
+        self.starts.len()
     }
-    begin
+
+    fn line_before(&self, room: &mut [u8], place: usize, index: usize) -> usize {
+        served_before(
+            room,
+            place,
+            index as u64,
+            self.starts[index],
+            self.ends[index],
+            self.workers[index],
+        )
+    }
 }
 
 // Forms the line of the number of workers at the end of a room, and says where it begins.
@@ -136,7 +106,7 @@ fn workers_before(room: &mut [u8], workers: u32) -> usize
     number_before(room, MOST_FRAME, b"greedy ", u64::from(workers))
 }
 
-// Forms the line of a row in a greedy plan in front of what a room has from a place on, and says where it begins.
+// Forms the line of a row in a greedy plan before what a room has from a place on, and says where it begins.
 fn served_before(
     room: &mut [u8],
     place: usize,
@@ -145,9 +115,9 @@ fn served_before(
     end: u64,
     worker: u32,
 ) -> usize
-    requires room { (MOST_SERVED ≤ place) × (place ≤ length room.old) }
+    requires room { (MOST_LINE ≤ place) × (place ≤ length room.old) }
     ensures written { drop result room.new ≡ served_line row start end worker ++ drop place room.old }
-    ensures near { (result ≤ place) × (place ≤ result + MOST_SERVED) }
+    ensures near { (result ≤ place) × (place ≤ result + MOST_LINE) }
 {
     let worker_at = write_before(room, place, u64::from(worker), b'\n');
     let end_at = write_before(room, worker_at, end, b' ');

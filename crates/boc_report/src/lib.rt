@@ -1,6 +1,7 @@
 //! The texts of reports.
 #![tactic(auto)]
 
+mod by_line;
 mod curve_lines;
 mod greedy_lines;
 mod number_line;

@@ -6,19 +6,19 @@ ghost use Rattle.boc_report.specs.declared.number_line.TheConstants.{MOST_FIELD}
 
 use boc_text::{MOST_DIGITS, write_before};
 
-/// The most bytes of a number, and one behind it.
+/// The most bytes of a number, and one after it.
 pub(crate) const MOST_FIELD: usize = MOST_DIGITS + 1;
 
-/// How many lines of rows are formed one in front of the other, and go out together.
+/// How many lines of rows are formed one before the other, and go out together.
 pub(crate) const TOGETHER: usize = 64;
 
-/// The most lines of one kind that a report or a sweep can have. The bytes of so many can be counted.
+/// The most lines of one kind that a report or a sweep can have. The bytes of this many can be counted.
 pub const MOST_LINES: usize = 1 << 32;
 
 /// The most bytes of a report without its greedy part, of a greedy part, and of a sweep.
 pub(crate) const MOST_PART: usize = 1 << 40;
 
-/// Puts a word in front of what a line has from a place on, and says where it begins.
+/// Puts a word before what a line has from a place on, and says where it begins.
 pub(crate) fn word_before(line: &mut [u8], place: usize, word: &[u8]) -> usize
     requires room { length word.now ≤ place }
     requires within { place ≤ length line.old }
@@ -30,7 +30,7 @@ pub(crate) fn word_before(line: &mut [u8], place: usize, word: &[u8]) -> usize
     at
 }
 
-/// Puts a line of a word and a number in front of what a room has from a place on, and says where it begins.
+/// Puts a line of a word and a number before what a room has from a place on, and says where it begins.
 pub(crate) fn number_before(room: &mut [u8], place: usize, word: &[u8], number: u64) -> usize
     requires room { MOST_FIELD + length word.now ≤ place }
     requires within { place ≤ length room.old }

@@ -1,17 +1,20 @@
 // The report on the rows of a record.
 
-ghost use Rattle.std.specs.Prelude.{◌≡◌, ◌∷◌, ◌++◌, ◌+◌, ◌*◌, ◌<◌, ◌≤◌, ◌^◌, codes, drop, false, length, option_map, OnOk, IfOk, IfSome, MatchResult};
+ghost use Rattle.std.specs.Prelude.{◌≡◌, ◌∷◌, ◌++◌, ◌+◌, ◌*◌, ◌<◌, ◌≤◌, ◌^◌};
+ghost use Rattle.std.specs.Prelude.{codes, drop, false, length, option_map, slice_index, OnOk, IfOk, IfSome, MatchResult};
 ghost use Rattle.std.specs.Io.KnownBytes.{Appends};
 ghost use Rattle.boc_report.specs.Texts.{report_head, report_text, step_line, step_lines, plan_line, plan_lines, plan_text, via_word};
 ghost use Rattle.boc_text.specs.Outgoing.{IsUnused, Puts, size};
 ghost use Rattle.boc_text.specs.Streams.{CountsFailure, StopsAt};
 ghost use Rattle.boc_text.specs.Writing.{CountsWrite, Writes};
 ghost use Rattle.boc_report.specs.Parts.{IsWhole, part_of};
-ghost use Rattle.boc_report.specs.declared.number_line.TheConstants.{MOST_LINES, MOST_PART, TOGETHER};
-ghost use Rattle.boc_report.specs.declared.profile_lines.TheConstants.{MOST_HEAD, MOST_STEP, MOST_ROW, ROWS_ROOM};
+ghost use Rattle.boc_report.specs.declared.number_line.TheConstants.{MOST_LINES, MOST_PART};
+ghost use Rattle.boc_report.specs.declared.profile_lines.TheConstants.{MOST_HEAD, MOST_STEP, MOST_ROW};
+ghost use Rattle.boc_report.specs.declared.by_line.TheConstants.{MOST_LINE};
 
+use crate::by_line::{Lines, put_lines};
 use crate::greedy_lines::put_greedy;
-use crate::number_line::{MOST_FIELD, TOGETHER, number_before, word_before};
+use crate::number_line::{MOST_FIELD, number_before, word_before};
 use boc_greedy::Greedy;
 use boc_order::Profile;
 use boc_plans::chain::{ChainStep, Via};
@@ -26,9 +29,6 @@ const MOST_STEP: usize = 2 * MOST_FIELD + 6;
 
 /// The most bytes of the line of a row in a plan.
 const MOST_ROW: usize = 3 * MOST_FIELD;
-
-/// The room in which lines of rows are formed that go out together.
-const ROWS_ROOM: usize = TOGETHER * MOST_ROW;
 
 /// Writes the report on a profile: how many rows, their work and the span, the chain, and the plan with each row's start and end, a
 /// line each. Where there is a greedy plan, its part follows. Where a report is wanted without its plans, the rows of both are left out. The text goes out in
@@ -57,7 +57,7 @@ pub fn write_report<W: Sink>(
     Ok(())
 }
 
-/// The text of the same report, in memory.
+/// Returns the text of the same report, in memory.
 pub fn profile_text(
     alloc: Global,
     profile: &Profile,
@@ -109,7 +109,7 @@ fn send_report<W: Sink>(
     out.send(sink)
 }
 
-// The greedy part of a report, where there is a greedy plan.
+// Writes the greedy part of a report, where there is a greedy plan.
 fn put_part<W: Sink>(
     out: &mut Outgoing,
     greedy: Option<&Greedy>,
@@ -130,7 +130,7 @@ fn put_part<W: Sink>(
     }
 }
 
-// The report without a greedy part.
+// Writes the report without a greedy part.
 fn put_profile<W: Sink>(
     out: &mut Outgoing,
     profile: &Profile,
@@ -155,7 +155,7 @@ fn put_profile<W: Sink>(
     put_rows(out, &profile.starts, &profile.ends, unplanned, sink)
 }
 
-// The plan of a report, unless it is wanted without.
+// Writes the plan of a report, unless it is wanted without.
 fn put_rows<W: Sink>(
     out: &mut Outgoing,
     starts: &[u64],
@@ -168,14 +168,14 @@ fn put_rows<W: Sink>(
     requires size { size out.old + 5 ≤ MOST_PART }
     requires failures { W.failures sink.old < u64.MAX }
     ensures goes_on { Puts (plan_text unplanned starts.now ends.now) result out.old out.new (W.written sink.old) (W.written sink.new) }
-    ensures size { OnOk result (size out.new ≤ size out.old + 5 + MOST_ROW * length starts.now) }
+    ensures size { OnOk result (size out.new ≤ size out.old + 5 + MOST_LINE * length starts.now) }
     ensures failures { CountsFailure result (W.failures sink.old) (W.failures sink.new) }
 {
     if unplanned {
         return Ok(());
     }
     out.put(b"plan\n", sink)?;
-    put_plan(out, starts, ends, sink)
+    put_lines(out, &PlanRows { starts, ends }, sink)
 }
 
 // Forms the numbers of a report and the line before its chain at the end of a room, and says where they begin.
@@ -190,7 +190,7 @@ fn head_before(room: &mut [u8], profile: &Profile) -> usize
     number_before(room, work_at, b"rows ", profile.starts.len() as u64)
 }
 
-// The lines of a chain's steps.
+// Writes the lines of a chain's steps.
 fn put_steps<W: Sink>(out: &mut Outgoing, steps: &[ChainStep], sink: &mut W) -> Result<(), Stopped>
     requires few { length steps.now ≤ MOST_LINES }
     requires size { size out.old ≤ MOST_PART }
@@ -218,7 +218,7 @@ fn step_before(room: &mut [u8], step: ChainStep) -> usize
     write_before(room, via_at, u64::from(step.row), b' ')
 }
 
-// Puts what stands behind the row of a step and a space in front of what a line has from a place on, and says where it begins.
+// Puts what comes after the row of a step and a space before what a line has from a place on, and says where it begins.
 fn via_before(line: &mut [u8], place: usize, via: Via) -> usize
     requires room { 6 ≤ place }
     requires within { place ≤ length line.old }
@@ -232,63 +232,35 @@ fn via_before(line: &mut [u8], place: usize, via: Via) -> usize
     }
 }
 
-// The lines of the rows of a plan. Those that go out together are formed in a room that all share.
-fn put_plan<W: Sink>(
-    out: &mut Outgoing,
-    starts: &[u64],
-    ends: &[u64],
-    sink: &mut W,
-) -> Result<(), Stopped>
-    requires lengths { length starts.now ≡ length ends.now }
-    requires few { length starts.now ≤ MOST_LINES }
-    requires size { size out.old ≤ MOST_PART }
-    requires failures { W.failures sink.old < u64.MAX }
-    ensures goes_on { Puts (plan_lines 0 starts.now ends.now) result out.old out.new (W.written sink.old) (W.written sink.new) }
-    ensures size { OnOk result (size out.new ≤ size out.old + MOST_ROW * length starts.now) }
-    ensures failures { CountsFailure result (W.failures sink.old) (W.failures sink.new) }
-{
-    let mut room = [0; ROWS_ROOM];
-    let mut first = 0;
-    while first < starts.len() {
-        let behind = starts.len().min(first + TOGETHER);
-        let begin = rows_before(
-            &mut room,
-            first,
-            &starts[first..behind],
-            &ends[first..behind],
-        );
-        out.put(&room[begin..], sink)?;
-        first = behind;
-    }
-    Ok(())
+// The rows of a plan, a line for each.
+#[derive(Clone, Copy)]
+struct PlanRows<'a> {
+    starts: &'a [u64],
+    ends: &'a [u64],
+    ghost same: { length starts.now ≡ length ends.now },
 }
 
-// Forms the lines of rows of a plan, of which the first has this number, at the end of a room, and says where they begin.
-fn rows_before(room: &mut [u8], first: usize, starts: &[u64], ends: &[u64]) -> usize
-    requires room { length room.old ≡ ROWS_ROOM }
-    requires lengths { length starts.now ≡ length ends.now }
-    requires few { length starts.now ≤ TOGETHER }
-    requires numbers { first + length starts.now ≤ MOST_LINES }
-    ensures written { drop result room.new ≡ plan_lines first starts.now ends.now }
-    ensures near { (result ≤ ROWS_ROOM) × (ROWS_ROOM ≤ result + MOST_ROW * length starts.now) }
-    ensures long { length room.new ≡ ROWS_ROOM }
-{
-    let mut place = starts.len();
-    let mut begin = ROWS_ROOM;
-    while place > 0 {
-        place -= 1;
-        begin = row_before(
+impl Lines for PlanRows<'_> {
+    ghost count = { λ p. length p.starts.now };
+
+    ghost line = { λ p i. plan_line i (slice_index p.starts.now i) (slice_index p.ends.now i) };
+
+    fn len(&self) -> usize {
+        self.starts.len()
+    }
+
+    fn line_before(&self, room: &mut [u8], place: usize, index: usize) -> usize {
+        row_before(
             room,
-            begin,
-            (first + place) as u64,
-            starts[place],
-            ends[place],
-        );
+            place,
+            index as u64,
+            self.starts[index],
+            self.ends[index],
+        )
     }
-    begin
 }
 
-// Forms the line of a row in a plan in front of what a room has from a place on, and says where it begins.
+// Forms the line of a row in a plan before what a room has from a place on, and says where it begins.
 fn row_before(room: &mut [u8], place: usize, row: u64, start: u64, end: u64) -> usize
     requires room { (MOST_ROW ≤ place) × (place ≤ length room.old) }
     ensures written { drop result room.new ≡ plan_line row start end ++ drop place room.old }

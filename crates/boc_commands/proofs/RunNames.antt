@@ -73,9 +73,7 @@ there (x ∷ xs) (suc k) d l = there xs k d (omega arith)
 
 kinds_below : (p : Program) (log : List Event) → IsRun p log → All (λ (m : Member). m.behaviour.kind < length p.bodies) (config_of p log).members
 kinds_below p log run k d l =
-    let m : Member = slice_index_or (config_of p log).members k d in
-    kind_there p log run k m.behaviour.kind m.behaviour.args m.behaviour.cowns
-    (record { member = m; is = there (config_of p log).members k d l; behaviour_is = refl })
+    kind_there p log run k (slice_index_or (config_of p log).members k d) (there (config_of p log).members k d l)
 
 families_length : (k : ℕ) (cowns : List Cown) → length (family_numbers k cowns) ≡ cown_count cowns
 families_length k [] = refl
@@ -100,18 +98,21 @@ cowns_length : (cowns : List Cown) → length (cown_names cowns) ≡ cown_count 
 cowns_length [] = refl
 cowns_length (c ∷ cs) = omega (arith, length-append (declared_names c.name c.size) (cown_names cs), declared_length c.name c.size, cowns_length cs)
 
+-- a record of a run has as many rows as the run
+pub as_many_rows : (p : Program) (r : Recorded) → IsRecordOf p r → IsRecord r → length (config_of p r.events).members ≡ length r.rows
+as_many_rows p r run whole = sym (run_twins p r.events run.run.run).same ∙ sym whole.rows_are.all
+
 -- the names of a run of a program are few
 pub named_few : (p : Program) (r : Recorded) (called : List Text) (names : Names) → IsRecordOf p r → IsRecord r → IsRows r.rows
     → AreNamesOf p called (config_of p r.events).members names → AreFew r.rows names
 named_few p r called names run whole shape are =
-    let twins = run_twins p r.events run.run.run in
     let kinds : All (λ (m : Member). m.behaviour.kind < MOST_ROWS) (config_of p r.events).members =
     λ k d l. omega (arith, kinds_below p r.events run.run.run k d l, p.few_defs) in
     record {
       rows_are = as_many names.rows.items _ are.rows
-          ∙ length-map (config_of p r.events).members (member_text (codes "main" ∷ called) (named_cowns p.cowns)) ∙ sym twins.same ∙ sym whole.rows_are.all;
+          ∙ length-map (config_of p r.events).members (member_text (codes "main" ∷ called) (named_cowns p.cowns)) ∙ as_many_rows p r run whole;
       few_rows = shape.not_many;
-      defs = ap length are.defs ∙ length-map (config_of p r.events).members (λ m. m.behaviour.kind) ∙ sym twins.same ∙ sym whole.rows_are.all;
+      defs = ap length are.defs ∙ length-map (config_of p r.events).members (λ m. m.behaviour.kind) ∙ as_many_rows p r run whole;
       few_defs = subst (All (λ (d : ℕ). d < MOST_ROWS)) (sym are.defs)
           (All-map (λ (d : ℕ). d < MOST_ROWS) (λ (m : Member). m.behaviour.kind) (config_of p r.events).members kinds);
       cowns_are = as_many names.cowns.items _ are.cowns ∙ cowns_length p.cowns ∙ sym (ap length are.families ∙ families_length 0 p.cowns);

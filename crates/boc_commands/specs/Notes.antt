@@ -10,10 +10,8 @@ use Rattle.boc_plans.specs.declared.sharing.Sharing.{Sharing}
 use Rattle.boc_runs.specs.declared.event.Event.{Event}
 use Rattle.boc_runs.specs.Records.{Recorded}
 use Rattle.boc_runs.specs.Run.{config_of}
-use Rattle.boc_names.specs.Names.{NamedCowns, Text, behaviour_text, member_text, named_cowns, texts_of}
-use Rattle.boc_notes.specs.declared.named.NamedRow.{NamedRow}
+use Rattle.boc_names.specs.Names.{Text, member_text, named_cowns, texts_of}
 use Rattle.boc_notes.specs.Notes.{faulted_rows, note_of_behaviour, note_of_row, notes_text}
-use Rattle.boc_dispatch.specs.declared.calls.ToldRow.{ToldRow}
 use Rattle.boc_words.specs.declared.asked.AskedCowns.{AskedCowns}
 use Rattle.boc_words.specs.declared.asked.AskedPlans.{AskedPlans}
 use Rattle.boc_words.specs.declared.asked.AskedWhy.{AskedWhy}
@@ -48,19 +46,6 @@ pub record AreRunNotes (text : Text) (recorded : Recorded) (notes : Text) : Type
   pub defs : List DefListing
   pub lists : ListsDefs text defs
   pub notes_are : notes ≡ notes_of_rows (run_names program (map (λ d. d.name) defs) recorded.events) recorded.rows
-
--- a row, and what it is called
-pub record RowName : Type 0 where
-  pub row : ℕ
-  pub name : Text
-
--- those of a row whose name is told
-abbrev pub row_name : NamedRow → RowName
-row_name n = record { row = n.row; name = n.name.items }
-
--- those of a row of which it is told what it is, where defs and cowns are called so
-abbrev pub told_name : List Text → NamedCowns → ToldRow → RowName
-told_name defs cowns t = record { row = t.row; name = behaviour_text defs cowns t.kind t.args.items t.cowns.items }
 
 -- the notes on the behaviours of the serial run of the program that a text spells, called as in the text
 pub record AreSerialNotes (text notes : Text) : Type 0 where

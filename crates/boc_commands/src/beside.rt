@@ -1,4 +1,4 @@
-// What a file beside an input tells: a program, or a record.
+// What a file given with an input reports: a program, or a record.
 
 ghost use Rattle.std.specs.Prelude.{◌≡◌, MatchResult};
 ghost use Rattle.boc_reader.specs.Spells.{Spells};
@@ -15,7 +15,7 @@ use boc_runs::record::Record;
 use boc_text::Bytes;
 use std::alloc::Global;
 
-// The program that a file spells.
+// Returns the program that a file spells.
 pub(crate) fn program_beside(alloc: Global, text: &[u8]) -> Result<Program, Fault>
     ensures { MatchResult result (Spells text.now) (IsOfProgramFile text.now) }
 {
@@ -25,7 +25,7 @@ pub(crate) fn program_beside(alloc: Global, text: &[u8]) -> Result<Program, Faul
     }
 }
 
-// The record whose text a file is.
+// Returns the record whose text a file is.
 pub(crate) fn record_beside(alloc: Global, text: Vec<u8>) -> Result<Record, Fault>
     ensures { MatchResult result (IsTextOf text.items) (IsOfRecordFile text.items) }
 {
@@ -35,7 +35,7 @@ pub(crate) fn record_beside(alloc: Global, text: Vec<u8>) -> Result<Record, Faul
     }
 }
 
-// The fault of a program text that stands in a file.
+// Returns the fault of a program text that is in a file.
 pub(crate) fn of_read_beside(fault: ReadFault) -> Fault
     ensures { result ≡ of_read_beside fault fault.kind }
 {
@@ -45,7 +45,7 @@ pub(crate) fn of_read_beside(fault: ReadFault) -> Fault
     }
 }
 
-// The fault of the text of a record that stands in a file. It is read from memory, which no device fails to give.
+// Returns the fault of the text of a record that is in a file. It is read from memory, which no device fails to give.
 pub(crate) fn of_record_beside(fault: RecordFault) -> Fault
     ensures { result ≡ of_record_beside fault fault.kind }
 {
@@ -55,7 +55,7 @@ pub(crate) fn of_record_beside(fault: RecordFault) -> Fault
     }
 }
 
-// The fault of a record that stands in a file, and strays from its program.
+// Returns the fault of a record that is in a file, and diverges from its program.
 pub(crate) fn of_stray_beside(fault: StrayFault) -> Fault
     ensures { result ≡ of_stray_beside fault fault.kind }
 {

@@ -17,7 +17,7 @@ use boc_why::{Placed, ranked};
 use std::alloc::{AllocError, Global};
 use std::thread::Threads;
 
-/// Reads the text of a record, and writes of the ends that `sweep_cmd` tells the soonest ones, so many at the most, and of equal ones those with the least
+/// Reads the text of a record, and writes of the ends that `sweep_cmd` reports the soonest ones, this many at most, and of equal ones those with the smallest
 /// numbers first; each with its number, and by how much it is sooner than the plan ends as it is.
 ///
 /// What is refused, and how long it takes, is as for `sweep_cmd`.
@@ -49,7 +49,7 @@ pub fn best_cmd<R: Threads + Sync, S: Source, W: Sink>(
     Ok(())
 }
 
-// Where the plan of a sweep ends as it is.
+// Returns where the plan of a sweep ends as it is.
 fn unswept(alloc: Global, over: &Sweep, question: &WhatIf) -> Result<u64, AllocError>
     ensures { IfOk result (IsUnswept (seen question.now.sharing question.now.rows) over.now) }
 {
@@ -61,7 +61,7 @@ fn unswept(alloc: Global, over: &Sweep, question: &WhatIf) -> Result<u64, AllocE
     }
 }
 
-// The lines of the first of these ends, so many at the most.
+// Returns the lines of the first of these ends, this many at most.
 fn best_text(
     alloc: Global,
     was: u64,
@@ -85,7 +85,7 @@ fn best_text(
     Ok(text)
 }
 
-// The line of an end.
+// Writes the line of an end.
 fn put_best(text: &mut Vec<u8>, was: u64, number: u64, end: u64) -> Result<(), AllocError>
     ensures { OnOk result (text.new.items ≡ text.old.items ++ best_line was number end) }
 {

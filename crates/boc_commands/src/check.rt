@@ -14,7 +14,7 @@ use std::alloc::{AllocError, Global};
 /// Reads the text of a record, and writes how many rows it has.
 ///
 /// A text is refused at its first faulty line, and only where it is no record's. Nothing is written unless
-/// the whole output stands. After a failing write a beginning of it went out.
+/// the whole output is ready. After a failing write a beginning of it went out.
 pub fn check_cmd<S: Source, W: Sink>(
     alloc: Global,
     source: &mut S,
@@ -33,7 +33,7 @@ pub fn check_cmd<S: Source, W: Sink>(
     Ok(())
 }
 
-// The text that tells how many rows there are.
+// Returns the text that says how many rows there are.
 pub(crate) fn check_text(alloc: Global, rows: &Rows) -> Result<Vec<u8>, AllocError>
     ensures { IfOk result (λ text. text.items ≡ check_text_spec (length rows.now)) }
 {

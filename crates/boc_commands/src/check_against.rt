@@ -20,8 +20,8 @@ use std::alloc::Global;
 /// Reads the text of a record, sees that it is that of a run of the program that a file spells, and writes how many rows it has.
 ///
 /// The file is refused where it spells no program, for what is wrong with it and where, before anything of the source is read; the text as by
-/// `check`; and then a record that is that of no run of the program, for the first line of its text that strays from it. Nothing is written unless
-/// the whole output stands. After a failing write a beginning of it went out. `progress` receives how many events are followed.
+/// `check`; and then a record that is that of no run of the program, for the first line of its text that diverges from it. Nothing is written unless
+/// the whole output is ready. After a failing write a beginning of it went out. `progress` receives how many events are followed.
 pub fn check_against_cmd<S: Source, W: Sink>(
     alloc: Global,
     program: &[u8],

@@ -19,11 +19,11 @@ use std::alloc::{AllocError, Global};
 use std::sync::Wait;
 use std::thread::Threads;
 
-/// Reads a program, which it runs, or the text of a record, as its first word tells, and writes how long each cown of the run is held, waited for and handed
-/// on, and the span without it, those first that are held longest. Below that stands whether the spawns hold the run back, or the load of a cown, or order
+/// Reads a program, which it runs, or the text of a record, as its first word says, and writes how long each cown of the run is held, waited for and handed
+/// on, and the span without it, those first that are held longest. Below that is whether the spawns hold the run back, or the load of a cown, or order
 /// does. `bytes`, the notes and `progress` are as for `why`.
 ///
-/// A program is refused as by `run`, a record as by `profile`, and a file as its kind is. Nothing is written unless the whole answer stands. After a failing
+/// A program is refused as by `run`, a record as by `profile`, and a file as its kind is. Nothing is written unless the whole answer is ready. After a failing
 /// write a beginning of it went out. Plans are made in threads. The text of a record is taken into memory as a whole.
 pub fn cowns_cmd<R: Threads + Wait + Sync, G: Gate, S: Source, W: Sink>(
     rt: &R,
@@ -56,7 +56,7 @@ pub fn cowns_cmd<R: Threads + Wait + Sync, G: Gate, S: Source, W: Sink>(
     Ok(())
 }
 
-// What is told of the cowns of the run that an input tells of, and the notes on its rows.
+// Returns what is reported of the cowns of the run that an input reports on, and the notes on its rows.
 fn cowns_told<R: Threads + Wait + Sync, G: Gate>(
     rt: &R,
     alloc: Global,
@@ -82,7 +82,7 @@ fn cowns_told<R: Threads + Wait + Sync, G: Gate>(
     Ok(Told { text, notes })
 }
 
-// What is told of the cowns of a run, in their names.
+// Returns what is reported of the cowns of a run, in their names.
 fn told<R: Threads + Sync>(
     rt: &R,
     alloc: Global,

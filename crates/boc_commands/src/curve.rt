@@ -6,7 +6,7 @@ ghost use Rattle.boc_commands.specs.Commands.{AnswersInput, Leaves, CountsSource
 
 use crate::fault::Fault;
 use boc_plans::sharing::Sharing;
-use boc_plans::workers::Workers;
+use boc_program::count::Workers;
 use boc_record::read_rows;
 use boc_report::curve_text;
 use boc_text::{Sink, Source, put_out};
@@ -15,11 +15,11 @@ use std::alloc::Global;
 use std::thread::Threads;
 
 /// Reads the text of a record, and writes the work of its rows, their span, and for each number of workers up to the most the end of the
-/// greedy plan, the tick before which no plan of so many workers ends, and the tick by which the greedy plan has ended. Plans see the
+/// greedy plan, the tick before which no plan of the given number of workers ends, and the tick by which the greedy plan has ended. Plans see the
 /// rows as they share cowns in this way.
 ///
 /// A text is refused at its first faulty line, and only where it is no record's. Nothing is written unless
-/// the whole answer stands. After a failing write a beginning of it went out. The plans are made in threads.
+/// the whole answer is ready. After a failing write a beginning of it went out. The plans are made in threads.
 pub fn curve_cmd<R: Threads + Sync, S: Source, W: Sink>(
     rt: &R,
     alloc: Global,

@@ -37,7 +37,7 @@ pub enum Fault {
     Words(WordsFault),
     /// The input was refused.
     Input(InputFault),
-    /// The run was given up; where memory was refused, that is told as such.
+    /// The run was given up; where memory was refused, that is reported as such.
     Run(RunFault),
     /// Memory was refused, or a device failed.
     Means(Want),
@@ -50,26 +50,26 @@ pub enum InputFault {
     Program(ReadFault),
     /// The text of a record.
     Record(RecordFault),
-    /// A cown that is to be left out, counted from 1, and that the record doesn't have.
+    /// A cown that must be left out, counted from 1, and that the record doesn't have.
     Cown { number: usize },
     /// An edit that the rows can't take, counted from 1.
     Edit { number: usize, fault: EditFault },
     /// An edit of a def that no row is of, counted from 1.
     Def { number: usize },
-    /// The record strays from its program.
+    /// The record diverges from its program.
     Stray(StrayFault),
-    /// A file beside the input.
+    /// A file given with the input.
     Beside(FileFault),
 }
 
-/// Why a file beside an input was refused.
+/// Why a file given with an input was refused.
 #[derive(Clone, Copy, PartialEq, Eq, Debug)]
 pub enum FileFault {
     /// It should be a program text.
     Program(ReadFault),
     /// It should be the text of a record.
     Record(RecordFault),
-    /// Its record strays from the program.
+    /// Its record diverges from the program.
     Stray(StrayFault),
     /// It should be the names of rows and cowns.
     Names(NamesFault),
@@ -89,7 +89,7 @@ pub enum Want {
 impl Fault {
     ghost use Rattle.boc_commands.specs.Faults.{status_of, gone_of, fault_line, IsLineOf};
 
-    /// The status of the program: 2 where the words were refused, 3 where the input was, 4 where the
+    /// Returns the status of the program: 2 where the words were refused, 3 where the input was, 4 where the
     /// run was, 5 where memory was or a device failed.
     pub fn status(&self) -> u8
         ensures { result ≡ status_of self.now }
@@ -102,7 +102,7 @@ impl Fault {
         }
     }
 
-    /// How many bytes of the output went out before the sink failed, where it failed.
+    /// Returns how many bytes of the output went out before the sink failed, where it failed.
     pub fn gone(&self) -> Option<usize>
         ensures { result ≡ gone_of self.now }
     {
@@ -112,7 +112,7 @@ impl Fault {
         }
     }
 
-    /// The line for standard error where it is the program's own, without its line feed; none where the parser refuses
+    /// Returns the line for standard error where it is the program's own, without its line feed; none where the parser refuses
     /// the words, which has a text of its own. It takes no memory.
     pub fn own_line(&self) -> Option<Line>
         ensures { option_map (λ line. line.bytes) result ≡ fault_line self.now }
@@ -131,7 +131,7 @@ impl Fault {
         }
     }
 
-    /// The text for standard error: the program's own line without its line feed, or the parser's text.
+    /// Returns the text for standard error: the program's own line without its line feed, or the parser's text.
     pub fn line(&self, alloc: Global) -> Result<String, AllocError>
         ensures { IfOk result (λ text. IsLineOf self.now (string_bytes text)) }
     {
@@ -142,7 +142,7 @@ impl Fault {
     }
 }
 
-// The line of a refused input.
+// Returns the line of a refused input.
 fn input_text(fault: &InputFault) -> Line
     ensures { result.bytes ≡ input_line fault.now }
 {
@@ -165,7 +165,7 @@ fn input_text(fault: &InputFault) -> Line
     }
 }
 
-// The line of a refused file beside an input.
+// Returns the line of a refused file given with an input.
 fn file_text(fault: &FileFault) -> Line
     ensures { result.bytes ≡ file_line fault.now }
 {
@@ -183,7 +183,7 @@ fn file_text(fault: &FileFault) -> Line
     }
 }
 
-// The line of what was wanting.
+// Returns the line of what was wanting.
 fn want_text(want: Want) -> Line
     ensures { result.bytes ≡ want_line want }
 {
@@ -193,7 +193,7 @@ fn want_text(want: Want) -> Line
     }
 }
 
-// A line without a number.
+// Returns a line without a number.
 fn joined(front: &str, said: &str) -> Line
     requires { length front.now + length said.now ≤ MOST_FAULT_LINE }
     ensures { result.bytes ≡ front.now ++ said.now }
@@ -204,7 +204,7 @@ fn joined(front: &str, said: &str) -> Line
     line
 }
 
-// A line that tells a number, and what is said of it.
+// Returns a line that reports a number, and what is said of it.
 fn numbered(front: &str, number: u64, said: &str) -> Line
     requires { length front.now + MOST_DIGITS + 2 + length said.now ≤ MOST_FAULT_LINE }
     ensures { result.bytes ≡ front.now ++ decimal number ++ codes ": " ++ said.now }
@@ -217,7 +217,7 @@ fn numbered(front: &str, number: u64, said: &str) -> Line
     line
 }
 
-// The number and the name of what is wrong with an edit.
+// Returns the number and the name of what is wrong with an edit.
 fn edit_text(fault: EditFault) -> &'static str
     ensures { result.now ≡ edit_line fault }
 {
@@ -230,7 +230,7 @@ fn edit_text(fault: EditFault) -> &'static str
     }
 }
 
-// The number and the name of what became of a run.
+// Returns the number and the name of what became of a run.
 fn run_text(fault: RunFault) -> &'static str
     ensures { result.now ≡ run_line fault }
 {

@@ -30,7 +30,7 @@ ghost use Rattle.boc_greedy.specs.declared.plan.Greedy.{Greedy};
 ghost use Rattle.boc_greedy.specs.Plans.{IsGreedyPlanOf};
 ghost use Rattle.boc_commands.specs.Promises.{IsBest, IsTrueReport, IsWithinBound};
 
-/// The plan, the chain and the span that `profile` answers are the best, and the greedy plan that `greedy` answers ends within
+/// Proves that the plan, the chain and the span that `profile` answers are the best, and the greedy plan that `greedy` answers ends within
 /// its bound, for the rows of every run, however they share cowns.
 pub fn answers_are_true()
     ensures best { (rows : List Row) (sharing : Sharing) (profile : Profile) → IsProfileOf (seen sharing rows) profile
@@ -39,21 +39,21 @@ pub fn answers_are_true()
         → IsWithinBound (seen sharing rows) p plan.starts.items plan.workers.items plan.ends_at }
 {}
 
-/// Every report on the rows of a record is true, however they share cowns.
+/// Proves that every report on the rows of a record is true, however they share cowns.
 pub fn reports_are_true()
     ensures { (rows : List Row) (sharing : Sharing) (asked : AskedPlans) (text : List ℕ) → IsRows rows → IsReport (seen sharing rows) asked text
         → IsTrueReport (seen sharing rows) asked text }
 {}
 
-/// Rows have one report at most, whatever plans are asked for.
+/// Proves that rows have one report at most, whatever plans are asked for.
 pub fn rows_have_one_report()
     ensures { (rows : List Row) (asked : AskedPlans) (output other : List ℕ) → IsRows rows → IsReport rows asked output → IsReport rows asked other
         → output ≡ other }
 {}
 
-/// An input has one answer at most, of each command that starts no threads for a run: of a text that spells a program one output of `values`, and for what
-/// was asked one of `outcomes`; of the text of a record one of `check`, and for what was asked one of `profile`, `whatif` with no file, `curve` and
-/// `sweep`. Beside one file it has one output of `check` with a program, and of `values` with a record.
+/// Proves that an input has one answer at most, of each command that starts no threads for a run: of a text that spells a program one output of `values`, and
+/// for what was asked one of `outcomes`; of the text of a record one of `check`, and for what was asked one of `profile`, `whatif` with no file, `curve` and
+/// `sweep`. With one file it has one output of `check` with a program, and of `values` with a record.
 pub fn input_has_one_answer()
     ensures values { (input output other : List ℕ) → IsValuesAnswer input output → IsValuesAnswer input other → output ≡ other }
     ensures check { (input output other : List ℕ) → IsCheckAnswer input output → IsCheckAnswer input other → output ≡ other }
@@ -76,8 +76,8 @@ pub fn input_has_one_answer()
         → output ≡ other }
 {}
 
-/// The seed of an outcome brings its run back: where the program is run as that seed draws, for as many workers and at the same depth, the run ends with the
-/// values of the outcome; and there is such a run.
+/// Proves that the seed of an outcome repeats its run: where the program is run as that seed draws, for as many workers and at the same depth, the run ends
+/// with the values of the outcome; and there is such a run.
 pub fn seeds_bring_runs_back()
     ensures there { (draws : AskedDraws) (input output : List ℕ) (answer : IsOutcomesAnswer draws input output) (i : ℕ) (o : Outcome)
         → slice_get answer.outcomes.all.items i ≡ Some o → (r : Recorded) × IsDrawnBy answer.program draws.workers o.seed draws.depth r }
@@ -86,15 +86,15 @@ pub fn seeds_bring_runs_back()
         → (config_of answer.program r.events).values ≡ o.values.items }
 {}
 
-/// Where there is a run that a seed draws, neither that draw nor the one that counts the steps of its depth has too many behaviours; and where one of them has,
-/// the program can come to as many as there may be, with one more due.
+/// Proves that where there is a run that a seed draws, neither that draw nor the one that counts the steps of its depth has too many behaviours; and where one
+/// of them has, the program can reach as many as there may be, with one more due.
 pub fn draws_are_runs_or_refused()
     ensures either { (p : Program) (workers seed : ℕ) (depth : Option ℕ) (r : Recorded) → IsDrawnBy p workers seed depth r
         → IsDrawFault p workers seed depth Behaviours → ⊥ }
     ensures full { (p : Program) (workers seed : ℕ) (depth : Option ℕ) → IsDrawFault p workers seed depth Behaviours → CanReachLimit p }
 {}
 
-/// A text spells one program at most.
+/// Proves that a text spells one program at most.
 pub fn text_spells_one_program()
     ensures { (text : List ℕ) (p q : Program) → Spells text p → Spells text q → p ≡ q }
 {}

@@ -1,4 +1,4 @@
-//! That there is one answer of the commands that tell of a run by its names.
+//! That there is one answer of the commands that report on a run by its names.
 
 ghost use Rattle.std.specs.Prelude.{◌≡◌, ℕ, Bool, List, Option, Some, String};
 ghost use Rattle.std.specs.Global.{Global};
@@ -16,8 +16,8 @@ ghost use Rattle.boc_words.specs.declared.asked.RunFile.TheVariants as run_files
 ghost use Rattle.boc_commands.specs.Notes.{TellsCowns, TellsWhy};
 ghost use Rattle.boc_commands.specs.WhatIfAnswers.{IsWhatIfAnswer};
 
-/// Of one run there is one answer at most of `why`, with one text of notes, and one of `cowns`. Where a program comes in, the threads decide which run is
-/// told of; its record decides all that is told.
+/// Proves that of one run there is one answer at most of `why`, with one text of notes, and one of `cowns`. Where a program comes in, the threads decide which
+/// run is reported of; its record decides all that is reported.
 pub fn run_has_one_answer()
     ensures why { (asked : AskedWhy) (file : Option RunFile) (bytes input notes output others other : List ℕ)
         → (one : TellsWhy asked file bytes notes input output) → (another : TellsWhy asked file bytes others input other)
@@ -27,7 +27,8 @@ pub fn run_has_one_answer()
         → one.answer.recorded ≡ another.answer.recorded → (notes ≡ others) × (output ≡ other) }
 {}
 
-/// The text of a record has one answer at most of `why`, with one text of notes, and one of `cowns`, with a file of names beside it or without one.
+/// Proves that the text of a record has one answer at most of `why`, with one text of notes, and one of `cowns`, with a file of names next to it or without
+/// one.
 pub fn record_has_one_answer()
     ensures why { (asked : AskedWhy) (file : Option RunFile) (bytes input notes output others other : List ℕ) (recorded : Recorded)
         → IsTextOf input recorded → TellsWhy asked file bytes notes input output → TellsWhy asked file bytes others input other
@@ -37,7 +38,7 @@ pub fn record_has_one_answer()
         → (notes ≡ others) × (output ≡ other) }
 {}
 
-/// A program has one answer at most of `why`, with one text of notes, and one of `cowns`, beside a file with the record of a run of it.
+/// Proves that a program has one answer at most of `why`, with one text of notes, and one of `cowns`, with a file with the record of a run of it.
 pub fn run_in_a_file_has_one_answer()
     ensures why { (asked : AskedWhy) (path : String Global) (bytes input notes output others other : List ℕ)
         → TellsWhy asked (Some (run_files.Record path)) bytes notes input output
@@ -47,7 +48,7 @@ pub fn run_in_a_file_has_one_answer()
         → TellsCowns asked (Some (run_files.Record path)) bytes others input other → (notes ≡ others) × (output ≡ other) }
 {}
 
-/// What is supposed of a record has one answer of `whatif` at most, at length or in short, with a program, with a file of names, or by numbers.
+/// Proves that what is supposed of a record has one answer of `whatif` at most, at length or in short, with a program, with a file of names, or by numbers.
 pub fn changed_record_has_one_answer()
     ensures { (file : Option NamesFrom) (bytes : List ℕ) (cowns : List AskedCown) (edits : List AskedEdit) (sharing : Sharing) (plans : AskedPlans)
         (short : Bool) (input output other : List ℕ) → IsWhatIfAnswer file bytes cowns edits sharing plans short input output

@@ -22,7 +22,7 @@ pub(crate) struct MeantEdits {
     pub counts: Vec<usize>,
 }
 
-// The name of the family of an array's cowns.
+// Returns the name of the family of an array's cowns.
 fn starred(alloc: Global, name: &[u8]) -> Result<Vec<u8>, AllocError>
     ensures { IfOk result (λ text. text.items ≡ starred name.now) }
 {
@@ -32,7 +32,7 @@ fn starred(alloc: Global, name: &[u8]) -> Result<Vec<u8>, AllocError>
     Ok(text)
 }
 
-// Whether a cown has this name, or its family has it.
+// Returns whether a cown has this name, or its family has it.
 fn has_name(names: &Names, name: &[u8], cown: usize) -> bool
     requires there { cown < length names.now.families.items }
     ensures { result ≡ has_name names.now name.now cown }
@@ -41,7 +41,7 @@ fn has_name(names: &Names, name: &[u8], cown: usize) -> bool
     text_at(&names.cowns, cown) == name || family == name
 }
 
-// Puts all cowns that have this name, or whose family has it, behind others.
+// Appends all cowns that have this name, or whose family has it, to others.
 fn put_named(cowns: &mut Vec<HeldCown>, names: &Names, name: &[u8]) -> Result<(), AllocError>
     requires families { length names.now.cowns.items ≡ length names.now.families.items }
     requires few { length names.now.families.items ≤ MOST_COWNS }
@@ -55,7 +55,7 @@ fn put_named(cowns: &mut Vec<HeldCown>, names: &Names, name: &[u8]) -> Result<()
     Ok(())
 }
 
-// Puts all cowns that are called so behind others: those with this name, or where there is none the members of the array with it.
+// Appends all cowns that are called so to others: those with this name, or where there is none the members of the array with it.
 fn put_called(
     alloc: Global,
     cowns: &mut Vec<HeldCown>,
@@ -75,7 +75,7 @@ fn put_called(
     Ok(())
 }
 
-// Puts the cowns that are meant behind others.
+// Appends the cowns that are meant to others.
 fn put_cowns(
     alloc: Global,
     cowns: &mut Vec<HeldCown>,
@@ -96,7 +96,7 @@ fn put_cowns(
     }
 }
 
-/// All cowns that are meant, those of one asked cown after those of another. It is refused for the first that means none.
+/// Returns all cowns that are meant, those of one asked cown after those of another. It is refused for the first that means none.
 pub(crate) fn cowns_meant(
     alloc: Global,
     names: &Names,
@@ -120,7 +120,7 @@ pub(crate) fn cowns_meant(
     Ok(cowns)
 }
 
-// Whether a row is of the def with this name.
+// Returns whether a row is of the def with this name.
 fn is_of(names: &Names, name: &[u8], row: usize) -> bool
     requires { row < length names.now.defs.items }
     ensures { result ≡ is_of names.now name.now row }
@@ -128,7 +128,7 @@ fn is_of(names: &Names, name: &[u8], row: usize) -> bool
     text_at(&names.def_names, names.defs[row] as usize) == name
 }
 
-// Puts an edit for each row of the def with this name behind others.
+// Appends an edit for each row of the def with this name to others.
 fn put_def(edits: &mut Vec<Edit>, names: &Names, name: &[u8], part: Part) -> Result<(), AllocError>
     requires { length names.now.defs.items ≤ MOST_ROWS }
     ensures { OnOk result (edits.new.items
@@ -146,7 +146,7 @@ fn put_def(edits: &mut Vec<Edit>, names: &Names, name: &[u8], part: Part) -> Res
     Ok(())
 }
 
-// Puts the edits that are meant behind others.
+// Appends the edits that are meant to others.
 fn put_edits(edits: &mut Vec<Edit>, names: &Names, asked: &AskedEdit) -> Result<(), AllocError>
     requires { length names.now.defs.items ≤ MOST_ROWS }
     ensures { OnOk result (edits.new.items ≡ edits.old.items ++ edits_of names.now asked.now) }
@@ -163,7 +163,7 @@ fn put_edits(edits: &mut Vec<Edit>, names: &Names, asked: &AskedEdit) -> Result<
     }
 }
 
-/// What edits that are asked for mean, up to the first that means none. `AllocError` says that memory was refused.
+/// Returns what edits that are asked for mean, up to the first that means none. `AllocError` says that memory was refused.
 pub(crate) fn edits_meant(
     alloc: Global,
     names: &Names,
@@ -186,7 +186,7 @@ pub(crate) fn edits_meant(
     Ok(MeantEdits { edits, counts })
 }
 
-/// The number, counted from 1, of the owner that the thing at this place belongs to, where each owner has so many, one behind the other.
+/// Returns the number, counted from 1, of the owner that the thing at this place belongs to, where each owner has this many, one after the other.
 pub(crate) fn owner_of(counts: &[usize], place: usize) -> usize
     requires { place < sum counts.now }
     ensures { IsOwner counts.now place result }

@@ -1,9 +1,10 @@
-// The run that a command tells of, and what its rows and cowns are called.
+// The run that a command reports on, and what its rows and cowns are called.
 
 ghost use Rattle.std.specs.Prelude.{◌≡◌, ◌<◌, ◌≤◌, IfErr, IfOk, None, length, map, MatchResult};
 ghost use Rattle.boc_program.specs.declared.limits.TheConstants.{MOST_TEXT};
 ghost use Rattle.boc_runs.specs.Records.{IsRecordOf};
 ghost use Rattle.boc_runs.specs.Run.{config_of};
+ghost use Rattle.boc_eval.specs.Instances.{AreRight};
 ghost use Rattle.boc_names.specs.Names.{AreNamesOf};
 ghost use Rattle.boc_reader.specs.Listed.{ListsDefs};
 ghost use Rattle.boc_reader.specs.Spells.{Spells};
@@ -19,8 +20,9 @@ ghost use Rattle.boc_text.specs.Streams.{CountsDevice};
 
 use crate::beside::{of_read_beside, of_stray_beside, record_beside};
 use crate::fault::{Fault, FileFault, InputFault, Want};
-use crate::run::recorded;
+use crate::run::{MadeRun, made_run};
 use crate::values::MOST_TAKEN;
+use boc_dispatch::{Tell, rows_in_order};
 use boc_follow::{StrayFault, StrayFaultKind, follow_record};
 use boc_names::{Names, NamesFault, NamesFaultKind, names_of_run, numbers_as_names, read_names};
 use boc_program::program::Program;
@@ -48,12 +50,12 @@ pub struct NamedRun {
     pub names: Names,
 }
 
-/// Where a run comes from, beside the input.
+/// Where a run comes from, next to the input.
 #[derive(Drop)]
 pub struct Origin<'a> {
     /// How a program is run.
     pub schedule: Schedule,
-    /// Which file stands beside the input.
+    /// Which file is next to the input.
     pub file: &'a Option<RunFile>,
     /// The bytes of that file; none where there is no file.
     pub bytes: Vec<u8>,
@@ -74,8 +76,8 @@ pub fn taken<S: Source>(alloc: Global, source: &mut S) -> Result<Vec<u8>, TextFa
     Ok(text)
 }
 
-/// The run that an input tells of, with what its rows and cowns are called: of the program that it spells, or the one that its record is of. The file beside
-/// it, if there is one, has the record of a run of the program, or names of rows and cowns.
+/// Returns the run that an input has, with what its rows and cowns are called: of the program that it spells, or the one that its record is of. The file next
+/// to it, if there is one, has the record of a run of the program, or names of rows and cowns.
 pub fn named_run<R: Threads + Wait + Sync, G: Gate>(
     rt: &R,
     alloc: Global,
@@ -105,7 +107,7 @@ pub fn named_run<R: Threads + Wait + Sync, G: Gate>(
     }
 }
 
-// The run of the program that a text spells, or the one that its record is of, as its first word tells.
+// The run of the program that a text spells, or the one that its record is of, as its first word says.
 fn own_run<R: Threads + Wait + Sync, G: Gate>(
     rt: &R,
     alloc: Global,
@@ -166,16 +168,36 @@ fn program_run<R: Threads + Wait + Sync, G: Gate>(
         (IsOfRun G.always_on schedule text.now) }
 {
     let (program, defs) = read_listed(alloc, text)?;
-    let record = recorded(rt, alloc, &program, schedule, gate, progress)?;
+    let run = made_run(rt, alloc, &program, schedule, Tell::All, gate, progress)?;
     let defs = called(alloc, defs)?;
-    let names = names_of(alloc, &program, &defs, &record, progress)?;
-    let rows = record.into_rows();
+    let names = told_names(alloc, &program, &defs, &run, progress)?;
+    let rows = run.record.into_rows();
     // For the proof alone, and free: that they have the shape of rows.
     let _shape = rows.as_slice();
     Ok(NamedRun { rows, names })
 }
 
-/// The names of the run of a program that a record is of, where the program's defs are called so.
+// Returns the names of a run of a program, where the program's defs are called so, by what the run says of its rows. If a row is missing there, which no run of
+// all rows leaves out, the run is followed once more.
+fn told_names(
+    alloc: Global,
+    program: &Program,
+    defs: &[Name],
+    run: &MadeRun,
+    progress: &mut dyn Progress,
+) -> Result<Names, AllocError>
+    requires run { IsRecordOf program.now run.now.record }
+    requires told { AreRight (config_of program.now run.now.record.events).members run.now.told.items }
+    ensures { IfOk result (AreNamesOf program.now defs.now (config_of program.now run.now.record.events).members) }
+{
+    let count = run.record.rows().as_slice().len();
+    match rows_in_order(alloc, &run.told, count)? {
+        Some(rows) => names_of_run(alloc, program, defs, &rows),
+        None => names_of(alloc, program, defs, &run.record, progress),
+    }
+}
+
+/// Returns the names of the run of a program that a record is of, where the program's defs are called so.
 pub(crate) fn names_of(
     alloc: Global,
     program: &Program,
@@ -195,7 +217,7 @@ pub(crate) fn names_of(
     }
 }
 
-// The names of the run of a program that a record is of, where the program's defs are called so, or how it strays.
+// The names of the run of a program that a record is of, where the program's defs are called so, or how it diverges.
 fn names_by(
     alloc: Global,
     program: &Program,
@@ -209,10 +231,11 @@ fn names_by(
 {
     let compiled = CompiledProgram::new(alloc, program)?;
     let followed = follow_record(alloc, &compiled, recorded, progress)?;
-    Ok(names_of_run(alloc, &followed, defs)?)
+    let rows = followed.instances(alloc)?;
+    Ok(names_of_run(alloc, program, defs, &rows)?)
 }
 
-// The names of the run of a program with these defs that a record is of, or how it strays.
+// The names of the run of a program with these defs that a record is of, or how it diverges.
 fn followed_names(
     alloc: Global,
     program: &Program,
@@ -286,7 +309,7 @@ fn of_names_file(fault: NamesFault) -> Fault
     }
 }
 
-/// The record whose text a source gives, with what its rows and cowns are called: in the program in a file beside it, by the names in one, or else by their
+/// The record whose text a source gives, with what its rows and cowns are called: in the program in a file next to it, by the names in one, or else by their
 /// numbers.
 pub(crate) fn named_record<S: Source>(
     alloc: Global,

@@ -18,11 +18,11 @@ use boc_words::AskedDraws;
 use std::alloc::Global;
 use std::thread::Threads;
 
-/// Reads a program, draws the runs of it that are asked for, and writes the ends that they come to: how often each, and by which seed first.
+/// Reads a program, draws the runs of it that are asked for, and writes the ends that they reach: how often each, and by which seed first.
 ///
 /// A program text is refused only where it spells no program, for what is wrong with it and where, and draws only where one of them has
-/// too many behaviours. Nothing is written unless the whole answer stands. After a failing write a beginning of it went out. Threads share
-/// out the draws, and `progress` is told how many are done.
+/// too many behaviours. Nothing is written unless the whole answer is ready. After a failing write a beginning of it went out. Threads share
+/// out the draws, and `progress` receives how many are done.
 pub fn outcomes_cmd<R: Threads + Sync, S: Source, W: Sink>(
     rt: &R,
     alloc: Global,
@@ -45,7 +45,7 @@ pub fn outcomes_cmd<R: Threads + Sync, S: Source, W: Sink>(
     Ok(())
 }
 
-// The text of the ends that runs come to which are drawn of the program that a text spells.
+// Returns the text of the ends that runs reach which are drawn of the program that a text spells.
 fn outcomes_told<R: Threads + Sync>(
     rt: &R,
     alloc: Global,

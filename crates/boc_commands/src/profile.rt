@@ -16,10 +16,10 @@ use std::alloc::Global;
 /// Reads the text of a record, and writes the report on its rows: their work, the span, the chain of rows that holds
 /// the run back, and the earliest plan. Where a number of workers is given, the greedy plan for them follows, with
 /// its end and the tick by which it has ended. The rows of plans are left out where they are not wanted. Plans see the rows as they share cowns in this way.
-/// The notes are put in place of others, unless quiet is wanted.
+/// The notes replace others, unless quiet is wanted.
 ///
 /// A text is refused at its first faulty line, and only where it is no record's. Nothing is written unless
-/// the whole answer stands. After a failing write a beginning of it went out.
+/// the whole answer is ready. After a failing write a beginning of it went out.
 pub fn profile_cmd<S: Source, W: Sink>(
     alloc: Global,
     plans: AskedPlans,

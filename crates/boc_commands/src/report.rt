@@ -17,7 +17,7 @@ use boc_whatif::WhatIf;
 use boc_words::AskedPlans;
 use std::alloc::{AllocError, Global};
 
-// Writes the report on some rows, without a greedy part, where none is asked for.
+// Writes the report on some rows, without a greedy part, where none is requested.
 fn plain_report<W: Sink>(
     alloc: Global,
     plans: AskedPlans,
@@ -83,7 +83,7 @@ pub(crate) fn report_after<W: Sink>(
     Ok(())
 }
 
-// The greedy plan for the workers that were asked for. Without such there is none.
+// Returns the greedy plan for the workers that were asked for. Without such there is none.
 fn greedy_for(
     alloc: Global,
     plans: AskedPlans,

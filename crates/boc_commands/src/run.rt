@@ -3,7 +3,7 @@
 ghost use Rattle.std.specs.Prelude.{◌≡◌, ◌<◌, ◌≤◌, length, IfErr, IfOk, MatchResult};
 ghost use Rattle.boc_program.specs.declared.limits.TheConstants.{MOST_RUNNERS, MOST_TEXT};
 ghost use Rattle.boc_runs.specs.Run.{config_of};
-ghost use Rattle.boc_workers.specs.Telling.{AreRight};
+ghost use Rattle.boc_eval.specs.Instances.{AreRight};
 ghost use Rattle.boc_commands.specs.Commands.{AnswersInput, Leaves, CountsSource, CountsSink, IsOfRun, RefusesRun};
 ghost use Rattle.boc_commands.specs.Notes.{AreRunNotes, AreWanted, TellsRun};
 ghost use Rattle.boc_commands.specs.Promises.{IsRunOf, IsRunOfText};
@@ -12,8 +12,9 @@ ghost use Rattle.boc_commands.specs.Schedules.{Fails, FailsDrawn, IsDrawFault, I
 use crate::fault::Fault;
 use crate::notes::notes_on_run;
 use crate::values::MOST_TAKEN;
-use boc_dispatch::ToldRow;
+use boc_dispatch::Tell;
 use boc_draws::{Depth, DrawFault, draw, way_of};
+use boc_eval::ToldRow;
 use boc_program::program::Program;
 use boc_progress::Progress;
 use boc_reader::read_listed;
@@ -27,13 +28,13 @@ use std::alloc::Global;
 use std::sync::Wait;
 use std::thread::Threads;
 
-/// Reads a program, runs it as the schedule says, by threads or as a seed draws, and writes the record of the run. The notes are put in place of others, unless
+/// Reads a program, runs it as the schedule says, by threads or as a seed draws, and writes the record of the run. The notes replace others, unless
 /// quiet is wanted.
 ///
 /// A program text is refused only where it spells no program, for what is wrong with it and where. A run by threads is refused for having too many behaviours
-/// only where the program can come to as many as there may be, with one more due; a gate that is always on holds nobody. A run that a seed draws is refused
+/// only where the program can reach as many as there may be, with one more due; a gate that is always on holds no worker. A run that a seed draws is refused
 /// only for having too many behaviours, and only where that very draw has, by these workers and at this depth, or the one by which the steps of the depth are
-/// counted. Nothing is written unless the whole answer stands. After a failing write a beginning of it went out. `progress` receives how
+/// counted. Nothing is written unless the whole answer is there. After a failing write a beginning of it went out. `progress` receives how
 /// far a draw is; the gate sees the threads.
 pub fn run_cmd<R: Threads + Wait + Sync, G: Gate, S: Source, W: Sink>(
     rt: &R,
@@ -84,7 +85,8 @@ pub(crate) fn noted_run<R: Threads + Wait + Sync, G: Gate>(
         (IsOfRun G.always_on schedule text.now) }
 {
     let (program, defs) = read_listed(alloc, text)?;
-    let run = made_run(rt, alloc, &program, schedule, gate, progress)?;
+    let tell = if quiet { Tell::Nothing } else { Tell::Faulted };
+    let run = made_run(rt, alloc, &program, schedule, tell, gate, progress)?;
     let notes = notes_on_run(
         alloc,
         quiet,
@@ -100,19 +102,20 @@ pub(crate) fn noted_run<R: Threads + Wait + Sync, G: Gate>(
     })
 }
 
-/// A run of a program: its record, and what is told of rows of it that ended by a fault.
+/// A run of a program: its record, and what it says of its rows.
 #[derive(Drop)]
 pub(crate) struct MadeRun {
     pub(crate) record: Record,
     pub(crate) told: Vec<ToldRow>,
 }
 
-/// A run of a program by this schedule. Of one that is drawn nothing is told.
+/// Returns a run of a program by this schedule. `tell` chooses the rows of which the run says what they are.
 pub(crate) fn made_run<R: Threads + Wait + Sync, G: Gate>(
     rt: &R,
     alloc: Global,
     program: &Program,
     schedule: Schedule,
+    tell: Tell,
     gate: &G,
     progress: &mut dyn Progress,
 ) -> Result<MadeRun, RunFault>
@@ -123,7 +126,7 @@ pub(crate) fn made_run<R: Threads + Wait + Sync, G: Gate>(
 {
     match schedule {
         Schedule::Threads(runners) => {
-            let answer = run(rt, alloc, program, runners.number(), gate)?;
+            let answer = run(rt, alloc, program, runners.number(), tell, gate)?;
             // For the proof alone, and free: that the record's rows are those that its events tell.
             let _rows = answer.record.rows();
             Ok(MadeRun {
@@ -136,45 +139,37 @@ pub(crate) fn made_run<R: Threads + Wait + Sync, G: Gate>(
             seed,
             depth,
         } => {
-            let record = drawn(alloc, program, workers, seed, depth, progress)?;
-            let told = Vec::new(alloc);
-            Ok(MadeRun { record, told })
+            let made = drawn(alloc, program, workers, seed, depth, tell, progress)?;
+            Ok(made)
         }
     }
 }
 
-/// The record of a run of a program by this schedule.
-pub(crate) fn recorded<R: Threads + Wait + Sync, G: Gate>(
-    rt: &R,
-    alloc: Global,
-    program: &Program,
-    schedule: Schedule,
-    gate: &G,
-    progress: &mut dyn Progress,
-) -> Result<Record, RunFault>
-    ensures run { IfOk result (λ r. IsRunOf program.now r) }
-    ensures scheduled { IfOk result (λ r. IsScheduled program.now schedule r) }
-    ensures failed { IfErr result (Fails G.always_on program.now schedule) }
-{
-    let run = made_run(rt, alloc, program, schedule, gate, progress)?;
-    Ok(run.record)
-}
-
-// The record of the run that a seed draws for so many workers, at this depth where there is one.
+// Returns the run that a seed draws for so many workers, at this depth where there is one.
 fn drawn(
     alloc: Global,
     program: &Program,
     workers: Runners,
     seed: u64,
     depth: Option<Depth>,
+    tell: Tell,
     progress: &mut dyn Progress,
-) -> Result<Record, RunFault>
-    ensures run { IfOk result (λ r. IsRunOf program.now r) }
-    ensures drawn { IfOk result (λ r. IsDrawnBy program.now workers seed depth r) }
+) -> Result<MadeRun, RunFault>
+    ensures run { IfOk result (λ r. IsRunOf program.now r.record) }
+    ensures drawn { IfOk result (λ r. IsDrawnBy program.now workers seed depth r.record) }
+    ensures told { IfOk result (λ r. AreRight (config_of program.now r.record.events).members r.told.items) }
     ensures failed { IfErr result (FailsDrawn program.now workers seed depth) }
 {
-    match draw_at_depth(alloc, program, workers.number(), seed, depth, progress) {
-        Ok(record) => Ok(record),
+    match draw_at_depth(
+        alloc,
+        program,
+        workers.number(),
+        seed,
+        depth,
+        tell,
+        progress,
+    ) {
+        Ok(made) => Ok(made),
         Err(DrawFault::Behaviours) => Err(RunFault::Behaviours),
         Err(DrawFault::Memory) => Err(RunFault::Memory),
     }
@@ -187,15 +182,20 @@ fn draw_at_depth(
     workers: u32,
     seed: u64,
     depth: Option<Depth>,
+    tell: Tell,
     progress: &mut dyn Progress,
-) -> Result<Record, DrawFault>
+) -> Result<MadeRun, DrawFault>
     requires { (1 ≤ workers) × (workers ≤ MOST_RUNNERS) }
-    ensures run { IfOk result (λ r. IsRunOf program.now r) }
-    ensures drawn { IfOk result (λ r. IsDrawnBy program.now workers seed depth r) }
+    ensures run { IfOk result (λ r. IsRunOf program.now r.record) }
+    ensures drawn { IfOk result (λ r. IsDrawnBy program.now workers seed depth r.record) }
+    ensures told { IfOk result (λ r. AreRight (config_of program.now r.record.events).members r.told.items) }
     ensures failed { IfErr result (IsDrawFault program.now workers seed depth) }
 {
     let compiled = CompiledProgram::new(alloc, program)?;
     let way = way_of(alloc, &compiled, workers, depth, progress)?;
-    let drawn = draw(alloc, &compiled, workers, way, seed, progress)?;
-    Ok(drawn.record)
+    let drawn = draw(alloc, &compiled, workers, way, seed, tell, progress)?;
+    Ok(MadeRun {
+        record: drawn.record,
+        told: drawn.told,
+    })
 }

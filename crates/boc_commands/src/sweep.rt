@@ -19,13 +19,13 @@ use std::alloc::{AllocError, Global};
 use std::thread::Threads;
 
 /// Reads the text of a record, and writes for each row, cown or spawn the tick at which all rows would end if that one alone were changed: if
-/// the row took the least ticks that it can, the cown ordered nobody, or the row were spawned as early as it can be. That is the end of the
+/// the row took the fewest ticks that it can, the cown imposed no order, or the row were spawned as early as it can be. That is the end of the
 /// earliest plan, which is the span, or, where a number of workers is given, of the greedy plan for them. Plans see the rows as they share
 /// cowns in this way.
 ///
 /// A text is refused at its first faulty line, and only where it is no record's. Nothing is written unless
-/// the whole answer stands. After a failing write a beginning of it went out. The ends are found in threads, where there
-/// are rows enough to be worth them; the ends of greedy plans take long, and `progress` is told how many are found.
+/// the whole answer is ready. After a failing write a beginning of it went out. The ends are found in threads, where there
+/// are rows enough to be worth them; the ends of greedy plans take long, and `progress` receives how many are found.
 pub fn sweep_cmd<R: Threads + Sync, S: Source, W: Sink>(
     rt: &R,
     alloc: Global,
@@ -50,7 +50,7 @@ pub fn sweep_cmd<R: Threads + Sync, S: Source, W: Sink>(
     Ok(())
 }
 
-/// The number of the first line: main is spawned by no row.
+/// Returns the number of the first line: main is spawned by no row.
 pub(crate) fn first_number(over: &Sweep) -> u32
     ensures { result ≡ first_of over.now }
 {
@@ -60,7 +60,7 @@ pub(crate) fn first_number(over: &Sweep) -> u32
     }
 }
 
-/// The ends of plans in which each row, each of so many cowns or each spawn in turn is changed.
+/// Returns the ends of plans in which each row, each of the given number of cowns or each spawn in turn is changed.
 pub(crate) fn ends_of<R: Threads + Sync>(
     rt: &R,
     alloc: Global,

@@ -24,7 +24,7 @@ use std::thread::Threads;
 /// does for a record.
 ///
 /// Whatever the order in which the threads make their steps, the rows are those of a run of the program, in which cowns are
-/// exclusive. Plans see the rows as they share cowns in the way that is asked for: the plan that is reported keeps their
+/// exclusive. Plans see the rows as they share cowns in the way that is requested: the plan that is reported keeps their
 /// spawn points and cown orders, each plan that keeps them starts no row earlier and ends no sooner, its end, the span and the
 /// ticks of the chain are one number, and the greedy plan for p workers ends within the work divided by p, and the span.
 ///

@@ -24,10 +24,10 @@ use std::alloc::{AllocError, Global};
 pub(crate) const MOST_TAKEN: usize = MOST_TEXT + 1;
 
 /// Reads a program, runs its behaviours one at a time, main first and the others in the order in which
-/// they are spawned, and writes the cowns' values at the end, a line each. The notes are put in place of others, unless quiet is wanted.
+/// they are spawned, and writes the cowns' values at the end, a line each. The notes replace others, unless quiet is wanted.
 ///
 /// A program text is refused only where it spells no program, for what is wrong with it and where, and a run only where the
-/// program has too many behaviours. Nothing is written unless the whole output stands. After a failing write a beginning of it
+/// program has too many behaviours. Nothing is written unless the whole output is ready. After a failing write a beginning of it
 /// went out. `progress` receives how many behaviours have ended.
 pub fn values_cmd<S: Source, W: Sink>(
     alloc: Global,
@@ -56,7 +56,7 @@ pub fn values_cmd<S: Source, W: Sink>(
     Ok(())
 }
 
-// The text of the values of the program that a text spells, and the notes on its serial run.
+// Returns the text of the values of the program that a text spells, and the notes on its serial run.
 fn values_told(
     alloc: Global,
     quiet: bool,
@@ -72,7 +72,7 @@ fn values_told(
     Ok(Told { text, notes })
 }
 
-// The notes on the behaviours of a serial run of a program with these defs, where they are wanted.
+// Returns the notes on the behaviours of a serial run of a program with these defs, where they are wanted.
 fn serial_notes(
     alloc: Global,
     quiet: bool,

@@ -24,11 +24,11 @@ use boc_text::{Sink, Source, put_out, read_all};
 use std::alloc::Global;
 
 /// Reads a program, and writes the values of its cowns with which the run ended whose record is the text of a file, a line each. The
-/// notes are put in place of others, unless quiet is wanted.
+/// notes replace others, unless quiet is wanted.
 ///
 /// A program text is refused only where it spells no program, for what is wrong with it and where; then the file, at its first faulty line, where
-/// it is no record's text; and then a record that is that of no run of the program, for the first line of its text that strays from it. Nothing is
-/// written unless the whole output stands. After a failing write a beginning of it went out. `progress` receives how many events are followed.
+/// it is no record's text; and then a record that is that of no run of the program, for the first line of its text that diverges from it. Nothing is
+/// written unless the whole output is ready. After a failing write a beginning of it went out. `progress` receives how many events are followed.
 pub fn values_after_cmd<S: Source, W: Sink>(
     alloc: Global,
     record_text: Vec<u8>,
@@ -57,7 +57,7 @@ pub fn values_after_cmd<S: Source, W: Sink>(
     Ok(())
 }
 
-// The text of the values with which the run ended that a file tells, of the program that a text spells, and the notes on that run.
+// Returns the text of the values with which the run ended that a file reports, of the program that a text spells, and the notes on that run.
 fn values_told(
     alloc: Global,
     quiet: bool,
@@ -74,7 +74,7 @@ fn values_told(
     values_of_run(alloc, quiet, &program, defs, &recorded, progress)
 }
 
-// The text of the values with which a run of a program with these defs ended, and the notes on it.
+// Returns the text of the values with which a run of a program with these defs ended, and the notes on it.
 fn values_of_run(
     alloc: Global,
     quiet: bool,

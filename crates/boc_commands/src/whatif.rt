@@ -20,7 +20,7 @@ use crate::named_run::{NamedRun, named_record};
 use crate::report::report_after;
 use boc_names::{Names, numbers_as_names};
 use boc_plans::sharing::Sharing;
-use boc_plans::workers::Workers;
+use boc_program::count::Workers;
 use boc_progress::Progress;
 use boc_record::read_counted;
 use boc_runs::rows::Rows;
@@ -31,18 +31,18 @@ use boc_why_report::{Outcome, short_text};
 use boc_words::{AskedCown, AskedEdit, AskedPlans, NamesFrom};
 use std::alloc::{AllocError, Global};
 
-/// What is supposed of a run, and how it is told what becomes of it.
+/// What is supposed of a run, and how it learns what becomes of it.
 #[derive(Drop)]
 pub struct Supposed<'a> {
     /// The cowns that are left out.
     pub cowns: &'a [AskedCown],
     /// How rows change.
     pub edits: &'a [AskedEdit],
-    /// Which plans are told.
+    /// Which plans are reported.
     pub plans: AskedPlans,
     /// How rows share cowns.
     pub sharing: Sharing,
-    /// Whether it is told in short.
+    /// Whether it is reported in short.
     pub short: bool,
 }
 
@@ -55,14 +55,14 @@ impl Supposed<'_> {
     }
 }
 
-// Whether each edit is that of one row, by its number.
+// Returns whether each edit is that of one row, by its number.
 fn are_of_rows(edits: &[AskedEdit]) -> bool
     ensures { result ≡ list_all is_of_row edits.now }
 {
     edits.iter().all(|edit| is_of_row(edit))
 }
 
-// Whether an edit is that of one row, by its number.
+// Returns whether an edit is that of one row, by its number.
 fn is_of_row(edit: &AskedEdit) -> bool
     ensures { result ≡ is_of_row edit.now }
 {
@@ -72,11 +72,11 @@ fn is_of_row(edit: &AskedEdit) -> bool
     }
 }
 
-/// Leaves cowns out of the rows of a run, so that they order nobody, has its rows change, edit by edit, and writes the report on them, as the command
-/// `profile` does; or, in short, what they come to before and after.
+/// Leaves cowns out of the rows of a run, so that they impose no order, has its rows change, edit by edit, and writes the report on them, as the command
+/// `profile` does; or, in short, what they take before and after.
 ///
-/// Of what is asked for the first cown is refused that means none of the run, and else the first edit that the rows can't take, as those before it
-/// have made them, or that means none of them. Nothing is written unless the whole answer stands. After a failing write a beginning of it went out.
+/// Of what is requested the first cown is refused that means none of the run, and else the first edit that the rows can't take, as those before it
+/// have made them, or that means none of them. Nothing is written unless the whole answer is ready. After a failing write a beginning of it went out.
 pub fn whatif_report<W: Sink>(
     alloc: Global,
     asked: &Supposed<'_>,
@@ -103,7 +103,7 @@ pub fn whatif_report<W: Sink>(
     }
 }
 
-// What is told in short of rows before and after what is supposed.
+// Returns what is reported in short of rows before and after what is supposed.
 fn short_answer(
     alloc: Global,
     names: &Names,
@@ -122,7 +122,7 @@ fn short_answer(
     Ok(short_text(alloc, names, &was, &now)?)
 }
 
-// What the rows of a question come to, whose defs these are.
+// Returns what the rows of a question take, whose defs these are.
 fn outcome_of(
     alloc: Global,
     defs: &[u32],
@@ -142,7 +142,7 @@ fn outcome_of(
     })
 }
 
-// The end of the greedy plan for the workers that were asked for. Without such there is none.
+// Returns the end of the greedy plan for the workers that were asked for. Without such there is none.
 fn end_for(
     alloc: Global,
     workers: Option<Workers>,
@@ -156,7 +156,7 @@ fn end_for(
     }
 }
 
-// Writes the same report where no row is meant or told by a name: then none gets one. Cowns are called by their numbers, of which there are so many.
+// Writes the same report where no row is meant or told by a name: then none gets one. Cowns are called by their numbers, of which there are this many.
 fn numbered_report<W: Sink>(
     alloc: Global,
     asked: &Supposed<'_>,
@@ -180,7 +180,7 @@ fn numbered_report<W: Sink>(
     report_after(alloc, asked.plans, after, sink)
 }
 
-// The rows with what is supposed of them.
+// Returns the rows with what is supposed of them.
 fn changed(alloc: Global, names: &Names, asked: &Supposed<'_>, rows: Rows) -> Result<WhatIf, Fault>
     requires families { length names.now.cowns.items ≡ length names.now.families.items }
     requires few_families { length names.now.families.items ≤ MOST_COWNS }
@@ -196,7 +196,7 @@ fn changed(alloc: Global, names: &Names, asked: &Supposed<'_>, rows: Rows) -> Re
     edited(alloc, names, asked.edits, question)
 }
 
-// The rows of a question with all edits that are asked for.
+// Returns the rows of a question with all edits that are asked for.
 fn edited(
     alloc: Global,
     names: &Names,
@@ -224,7 +224,7 @@ fn edited(
     }
 }
 
-// The rows of a record whose text a source gives, and how many cowns it has.
+// Returns the rows of a record whose text a source gives, and how many cowns it has.
 fn counted_record<S: Source>(alloc: Global, source: &mut S) -> Result<(Rows, u32), Fault>
     requires { S.failures source.old < u64.MAX }
     ensures read { IfOk result (λ read. ReadsCounted (Ok read) (S.remaining source.old) (S.remaining source.new)) }
@@ -236,7 +236,7 @@ fn counted_record<S: Source>(alloc: Global, source: &mut S) -> Result<(Rows, u32
     Ok(read_counted(alloc, source)?)
 }
 
-// Does the command where no file stands beside the record, and no row is meant or told by a name.
+// Does the command where no file is next to the record, and no row is meant or told by a name.
 fn numbered_whatif<S: Source, W: Sink>(
     alloc: Global,
     asked: &Supposed<'_>,
@@ -258,12 +258,12 @@ fn numbered_whatif<S: Source, W: Sink>(
     numbered_report(alloc, asked, rows, cowns, sink)
 }
 
-/// Reads the text of a record, with the names that come from a file beside it, if there is one, leaves cowns out of its rows, so that they order nobody, has
-/// them change, edit by edit, and writes the report on them, as the command `profile` does; or, in short, what they come to before and after.
+/// Reads the text of a record, with the names that come from a file given with it, if there is one, leaves cowns out of its rows, so that they impose no order,
+/// has them change, edit by edit, and writes the report on them, as the command `profile` does; or, in short, what they take before and after.
 ///
-/// A text is refused at its first faulty line, and only where it is no record's, and a file as its kind is. Of what is asked for the first cown is refused that
+/// A text is refused at its first faulty line, and only where it is no record's, and a file as its kind is. Of what is requested the first cown is refused that
 /// the record doesn't have, and else the first edit that the rows can't take, as those before it have made them, or that means none of them. Nothing is
-/// written unless the whole answer stands. After a failing write a beginning of it went out. `progress` receives how many events are followed.
+/// written unless the whole answer is ready. After a failing write a beginning of it went out. `progress` receives how many events are followed.
 pub fn whatif_cmd<S: Source, W: Sink>(
     alloc: Global,
     asked: &Supposed<'_>,

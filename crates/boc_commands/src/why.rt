@@ -12,7 +12,7 @@ use crate::named_run::{NamedRun, Origin, named_run, taken};
 use crate::notes::{Told, notes_on};
 use boc_greedy::greedy;
 use boc_plans::sharing::Sharing;
-use boc_plans::workers::Workers;
+use boc_program::count::Workers;
 use boc_progress::Progress;
 use boc_runs::rows::Rows;
 use boc_text::{Sink, Source, put_out};
@@ -24,11 +24,12 @@ use std::alloc::{AllocError, Global};
 use std::sync::Wait;
 use std::thread::Threads;
 
-/// Reads a program, which it runs, or the text of a record, as its first word tells, and writes why the rows of the run take as long as they do: the chain that
-/// holds them back, its ticks by def and by link, what would bring the end forward, and a lower bound for any order on the cowns. A last line tells of the
-/// greedy plan for so many workers, if that is asked for. `bytes` are those of the file beside the input, if there is one. The notes replace those in `notes`.
+/// Reads a program, which it runs, or the text of a record, as its first word says, and writes why the rows of the run take as long as they do: the chain that
+/// holds them back, its ticks by def and by link, what would move the end forward, and a lower bound for any order on the cowns. A last line reports on the
+/// greedy plan for the given number of workers, if that is requested. `bytes` are those of the file given with the input, if there is one. The notes replace
+/// those in `notes`.
 ///
-/// A program is refused as by `run`, a record as by `profile`, and a file as its kind is. Nothing is written unless the whole answer stands. After a failing
+/// A program is refused as by `run`, a record as by `profile`, and a file as its kind is. Nothing is written unless the whole answer is ready. After a failing
 /// write a beginning of it went out. Plans are made in threads. The text of a record is taken into memory as a whole. `progress` receives how far
 /// a draw or the following of a record is.
 pub fn why_cmd<R: Threads + Wait + Sync, G: Gate, S: Source, W: Sink>(
@@ -62,7 +63,7 @@ pub fn why_cmd<R: Threads + Wait + Sync, G: Gate, S: Source, W: Sink>(
     Ok(())
 }
 
-// Why the rows that an input tells of take as long as they do, and the notes on them.
+// Returns why the rows that an input reports on take as long as they do, and the notes on them.
 fn why_told<R: Threads + Wait + Sync, G: Gate>(
     rt: &R,
     alloc: Global,
@@ -88,7 +89,7 @@ fn why_told<R: Threads + Wait + Sync, G: Gate>(
     Ok(Told { text, notes })
 }
 
-// What is told of why the rows of a run take as long as they do, in their names.
+// Returns what is reported of why the rows of a run take as long as they do, in their names.
 fn told<R: Threads + Sync>(
     rt: &R,
     alloc: Global,
@@ -106,7 +107,7 @@ fn told<R: Threads + Sync>(
     Ok(text)
 }
 
-// Puts the line of the greedy plan behind a text, where a number of workers is given.
+// Appends the line of the greedy plan to a text, where a number of workers is given.
 fn put_asked_line(
     alloc: Global,
     text: &mut Vec<u8>,

@@ -37,7 +37,7 @@ served_before p s row (Some old) t after (Finished r who u m) e = inl (served_on
 served_before p s row (Some old) t after (Left r who step u m) e = inl (served_on old row _ e)
 served_before p s row (Some old) t (Some new) (WaitsToLeave r who m) e = inl e
 
--- a row that starts is served by nobody
+-- a row that starts is served by no worker
 not_served : (u : Underway) (h : Hand) (who row : ℕ) (t : State) → IsSound u.program u.state → HandFits u h → row_in h ≡ Some row → Starts u.state who row t → ⊥
 not_served u h who row t sound fits served m =
     let waits = starting_waits u.program u.state who row t sound m in

@@ -71,7 +71,7 @@ module _ (d : Parts) (slot row request : ℕ) (l : Live) (f : Front d slot row r
         (h ∙ ap (λ z. stepped (leaving_on (state z) l.number (open_of l) row (suc request))) unhooked_parts
         ∙ ap (λ z. stepped (leaving_on z l.number (open_of l) row (suc request))) (popped_state d slot row request l f []))
 
-  -- ---- another behind it
+  -- ---- another after it
 
   module _ (to : Slot) (answer : answers.Passed to ≡ leave_answer q) where
     abbrev this : Request

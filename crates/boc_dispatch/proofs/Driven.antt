@@ -11,6 +11,7 @@ use Rattle.boc_runs.specs.machine.Turns.{TakesTurn, Driven, Turn, Turns, opening
 use Rattle.boc_program.proofs.ChangedItems.{place_below}
 use Rattle.boc_machine_laws.proofs.Every.{opening_sound}
 use Rattle.boc_machine_laws.proofs.OneTurn.{turns_keep, no_turn}
+use Rattle.boc_eval.proofs.Taking.{take_next}
 use Rattle.boc_dispatch.specs.declared.interleaving.DriveFault.{DriveFault}
 use Rattle.boc_dispatch.specs.declared.interleaving.DriveFault.TheVariants as drive_faults
 use Rattle.boc_dispatch.specs.declared.worker.Hand.{Hand}
@@ -28,12 +29,7 @@ use Rattle.boc_dispatch.proofs.Turned.{turns_more}
 pub got_map : {A B : Type 0} (f : A → B) (xs : List A) (i : ℕ) (x : A) → slice_get xs i ≡ Some x → slice_get (map f xs) i ≡ Some (f x)
 got_map f xs i x e = slice_get-map f xs i ∙ ap (option_map f) e
 
-pub take_one_more : (xs : List ℕ) (i x : ℕ) → slice_get xs i ≡ Some x → take (suc i) xs ≡ take i xs ++ x ∷ []
-take_one_more [] i x e = absurd (let g : None ≡ Some x = e in cc)
-take_one_more (y ∷ xs) zero x e = (let g : Some y ≡ Some x = e in let same : y ≡ x = cc in ap (λ z. z ∷ []) same)
-take_one_more (y ∷ xs) (suc i) x e = ap (λ ys. y ∷ ys) (take_one_more xs i x e)
-
-got_replicate : {A : Type 0} (n : ℕ) (x y : A) (i : ℕ) → slice_get (replicate n x) i ≡ Some y → y ≡ x
+pub got_replicate : {A : Type 0} (n : ℕ) (x y : A) (i : ℕ) → slice_get (replicate n x) i ≡ Some y → y ≡ x
 got_replicate zero x y i e = absurd (let g : None ≡ Some y = e in cc)
 got_replicate (suc n) x y zero e = (let g : Some x ≡ Some y = e in cc)
 got_replicate (suc n) x y (suc i) e = got_replicate n x y i e
@@ -95,7 +91,7 @@ module _ (p : Program) (workers : ℕ) (choices : List ℕ) (place : ℕ) (u : U
     serves_are = map-set (λ (w : Worker). row_in w.hand) crew choice new;
   }
 
-  -- where there is no room for the next wish of the row of a worker, that has no turn
+  -- where there is no space for the next wish of the row of a worker, that has no turn
   pub none_where_full : (choice : ℕ) (w : Worker) → slice_get crew choice ≡ Some w → HasNoRoom (of_program p u.state) (row_in w.hand)
       → (after : Driven) → Turn p (stands_at u crew) choice after → ⊥
   none_where_full choice w is full after turn =
@@ -119,7 +115,7 @@ module _ (p : Program) (workers : ℕ) (choices : List ℕ) (place : ℕ) (u : U
           fits = subst (λ (x : Underway). IsCrew x (slice_set crew choice new)) (sym there)
               (crew_on u v.state crew choice old new at_sound h.fits is turn (subst (λ (x : Underway). HandFits x new.hand) there fits));
           turns = subst (λ cs. Turns p (opening_driven p workers) cs (stands_at v (slice_set crew choice new)))
-              (sym (take_one_more choices place choice chosen))
+              (sym (take_next choices place choice chosen))
               (turns_more p (opening_driven p workers) (take place choices) choice (stands_at u crew) (stands_at v (slice_set crew choice new)) h.turns
               (at_turn choice v old new is turn));
         }

@@ -249,7 +249,7 @@ module _ (d : Parts) (slot row request : ℕ) (l : Live) (f : Front d slot row r
       rows = same_rows [];
     }
 
-  -- another stands behind it
+  -- another comes after it
   module _ (r next : Request) (rest : List Request) (y : Live) (list_is : q ≡ r ∷ (next ∷ rest)) (mine : r.slot ≡ slot)
       (y_is : live_at d.live next.slot ≡ Some y) where
     queue_two : queue (state d) c ≡ l.number ∷ (y.number ∷ whos rest)
@@ -421,7 +421,7 @@ module _ (d : Parts) (slot row request : ℕ) (l : Live) (f : Front d slot row r
 
 -- ---- what the release answers
 
--- where none is behind
+-- where none is after
 pub unhooked_alone : (requests : List Request) (r : Request) (rest : List Request) → requests ≡ r ∷ rest → answers.Unhooked ≡ leave_answer requests → rest ≡ []
 unhooked_alone requests r [] e a = refl
 unhooked_alone requests r (next ∷ rest) e a = absurd (by_test next.settled (a ∙ ap leave_answer e))
@@ -430,7 +430,7 @@ unhooked_alone requests r (next ∷ rest) e a = absurd (by_test next.settled (a 
     by_test true g = cc
     by_test false g = cc
 
--- where the one behind is settled
+-- where the one after is settled
 pub passed_next : (requests : List Request) (r : Request) (rest : List Request) (to : Slot) → requests ≡ r ∷ rest → answers.Passed to ≡ leave_answer requests
     → (next : Request) × (behind : List Request) × (rest ≡ next ∷ behind) × (next.settled ≡ true) × (to ≡ record { index = next.slot })
 passed_next requests r [] to e a = absurd (let g : answers.Passed to ≡ answers.Unhooked = a ∙ ap leave_answer e in cc)

@@ -34,7 +34,7 @@ pub granted_same : (s t : State) (who c : ℕ) → settled (at t who) ≡ settle
     → is_granted (at t) (queue t) who c ≡ is_granted (at s) (queue s) who c
 granted_same s t who c settles q = λ i. nat_lt 0 (times c (settles i)) && is_first who (q i)
 
--- ---- lists of requests, each changed but for its slot
+-- ---- lists of requests, each changed except for its slot
 
 abbrev pub KeepsSlots : (Request → Request) → Type 0
 KeepsSlots f = (r : Request) → (f r).slot ≡ r.slot

@@ -30,7 +30,7 @@ use Rattle.boc_dispatch.proofs.Onward.{rows_on, chained_on, of_run_on, in_hand_o
 use Rattle.boc_dispatch.proofs.Tables.{live_there, live_here, live_other, live_new, at_slot, behaviours_changed, taken_changed, behaviours_length}
 use Rattle.boc_rules.proofs.Lists.{got_push}
 
--- ---- what is kept, but for the state that is sound and for what each counts
+-- ---- what is kept, except for the state that is sound and for what each counts
 
 pub tied_of : (d : Parts) → IsKept d → Tied d
 tied_of d k = search rules
@@ -155,7 +155,7 @@ pub waits_stage : (st : Stage) → waits_at st ≡ true → (row : ℕ) × (st �
 waits_stage (Recorded r phases.Waiting) h = (r, refl)
 waits_stage _ h = absurd (let f : false ≡ true = h in cc)
 
--- the state with this behaviour for who, and a row behind the ready ones
+-- the state with this behaviour for who, and a row after the ready ones
 abbrev readied : State → ℕ → OpenBehaviour → ℕ → State
 readied s who b row = record (with_behaviour s who (Some b)) { ready = s.ready ++ row ∷ [] }
 

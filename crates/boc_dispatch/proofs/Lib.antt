@@ -40,3 +40,7 @@ pub mod Driven
 pub mod Quieting
 pub mod CanSteps
 pub mod CanTurns
+pub mod Growing
+pub mod Staying
+pub mod Telling
+pub mod TellingRows

@@ -34,7 +34,7 @@ use Rattle.boc_dispatch.proofs.Standing.{open_is}
 use Rattle.boc_dispatch.proofs.Tables.{slot_of_open}
 use Rattle.boc_machine_laws.proofs.Allowing.{running_stage}
 
--- whoever stands before, if anyone, is flagged where settling isn't blocked
+-- whoever comes before, if anyone, is flagged where settling isn't blocked
 free_unless_blocked : (b : Option Request) → (answer_behind b ≡ settles.Blocked → ⊥) → IsFree b
 free_unless_blocked None h = tt
 free_unless_blocked (Some r) h =

@@ -1,4 +1,4 @@
--- Who stands right before a behaviour in a list.
+-- Who comes right before a behaviour in a list.
 use Rattle.std.proofs.Common.{◌≡◌, ◌≢◌, ℕ, ◌<◌, ◌≤◌, ◌⊎◌, inl, inr, true, false, cond, eqb, List, [], ◌∷◌, ◌++◌, refl, sym, ◌∙◌, ap, subst, arith}
 use Rattle.std.specs.Prelude.{Option, Some, None}
 use Rattle.boc_machine_laws.proofs.Lists.{same_or_not}
@@ -15,7 +15,7 @@ pub record IsFront (slot : ℕ) (q : List Request) : Type 0 where
   pub is : q ≡ this ∷ rest
   pub slot_is : this.slot ≡ slot
 
--- a request of this slot stands right behind another
+-- a request of this slot comes right after another
 pub record IsBehind (r : Request) (slot : ℕ) (q : List Request) : Type 0 where
   pub ahead : List Request
   pub this : Request
@@ -103,7 +103,7 @@ module _ (slot : ℕ) (q : List Request) (there : 0 < times slot (slots q)) (onc
 
 -- ---- what settling answers
 
--- whoever stands before, if anyone, is flagged
+-- whoever comes before, if anyone, is flagged
 abbrev pub IsFree : Option Request → Type 0
 IsFree None = Unit {0}
 IsFree (Some r) = r.flagged ≡ true

@@ -215,7 +215,7 @@ module _ (p : Program) (s : State) (k : IsSound p s) (row : ℕ) (m : Member) (i
   runner_works : works (at s (runner).0) ≡ true
   runner_works = running_works (at s (runner).0) runner_life
 
--- where nobody works, a hand that fits serves nobody
+-- where nobody works, a hand that fits serves no row
 module _ (u : Underway) (k : IsSound u.program u.state) (idle : NobodyWorks u.state) where
   no_member : (row : ℕ) (m : Member) → slice_get (members u.program u.state) row ≡ Some m → m.life ≡ Running → ⊥
   no_member row m is runs =

@@ -1,4 +1,4 @@
--- A request was released, and whoever came behind it may have been granted: the behaviour that leaves goes on, or is gone.
+-- A request was released, and whoever came after it may have been granted: the behaviour that leaves goes on, or is gone.
 use Rattle.std.proofs.Common.{◌≡◌, ◌≢◌, ℕ, zero, suc, ◌+◌, ◌^◌, ◌<◌, ◌≤◌, Bool, true, false, cond, List, [], ◌∷◌, length, map, set, refl, sym, ◌∙◌, ap, subst}
 use Rattle.std.proofs.Common.{arith, get_or-set_other, length-set}
 use Rattle.std.specs.Prelude.{slice_get, slice_index_or, nat_lt, ◌||◌, ◌==◌, Option, Some, None}

@@ -56,7 +56,7 @@ blocked u v h was k same w = record {
   same = ap (λ (x : Underway). x.program) w.0;
 }
 
--- nothing is ready for a worker that serves nobody
+-- nothing is ready for a worker that serves no row
 none_ready : (u v : Underway) (h was k : Hand) → row_in h ≡ row_in was → v ≡ u → k ≡ h → h ≡ hands.Nothing → u.state.ready ≡ [] → HasTurn u was v k
 none_ready u v h was k same is hand nothing none =
     let before : None ≡ row_in was = ap row_in (sym nothing) ∙ same in

@@ -67,7 +67,7 @@ pub record MayAsk (u : Underway) (f : Framed) (row : ℕ) : Type 0 where
   pub handed : IsHandedOut u row f.body f.args f.inputs
   pub next : IsNextWish u row f.made
 
--- a row's next wish is due, and there is no room for it
+-- a row's next wish is due, and there is no space for it
 pub record HasNoRoom (u : Underway) (row : Option ℕ) : Type 0 where
   pub served : ℕ
   pub serves : row ≡ Some served

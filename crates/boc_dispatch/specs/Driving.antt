@@ -97,7 +97,7 @@ pub record HasNoWorker (p : Program) (workers : ℕ) (choices : List ℕ) (place
   pub past : workers ≤ choice
 
 -- the choices before some place have their turns, and the worker of the choice at it has none, since its row's next wish is
--- due and there is no room for it
+-- due and there is no space for it
 pub record RunsOutOfRows (p : Program) (workers : ℕ) (choices : List ℕ) : Type 0 where
   pub place : ℕ
   pub before : Driven
@@ -159,7 +159,7 @@ pub record IsDrivenOn (p : Program) (workers : ℕ) (choices : List ℕ) (end : 
   pub more : List ℕ
   pub on : TurnsOn p played more end
 
--- they lead to where the worker of the next further turn has none, since its row's next wish is due and there is no room for it
+-- they lead to where the worker of the next further turn has none, since its row's next wish is due and there is no space for it
 pub record RunsOutLater (p : Program) (workers : ℕ) (choices : List ℕ) : Type 0 where
   pub before : Driven
   pub on : IsDrivenOn p workers choices before

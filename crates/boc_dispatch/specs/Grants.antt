@@ -32,7 +32,7 @@ granted_if (Some l) slot d = record d {
 abbrev pub with_granted : ℕ → Parts → Parts
 with_granted slot d = granted_if (live_at d.live slot) slot d
 
--- the behaviour at a slot awaits something; where that is all it has a row, and there is room for it in the ready list
+-- the behaviour at a slot awaits something; where that is all it has a row, and there is space for it in the ready list
 pub record MayBeGranted (d : Parts) (slot ready_room : ℕ) : Type 0 where
   pub this : Live
   pub is : live_at d.live slot ≡ Some this
@@ -55,7 +55,7 @@ abbrev pub AreReady : List (Option Live) → List ℕ → Type 0
 AreReady live ready = (k slot : ℕ) → slice_get ready k ≡ Some slot
     → (l : Live) × (row : ℕ) × (live_at live slot ≡ Some l) × (l.stage ≡ Recorded row phases.Ready)
 
--- what is kept, but for the state that is sound and for what each counts
+-- what is kept, except for the state that is sound and for what each counts
 pub record Tied (d : Parts) : Type 0 where
   pub cowns_are : d.log.cowns ≡ cown_count d.program.cowns
   pub values_are : d.values ≡ (config_of d.program d.log.events).values

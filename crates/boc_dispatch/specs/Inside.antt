@@ -211,7 +211,7 @@ pub record IsKept (d : Parts) : Type 0 where
       → (l : Live) × (row : ℕ) × (live_at d.live slot ≡ Some l) × (l.stage ≡ Recorded row phases.Ready)
   pub left : count_by is_taken d.live + d.gone ≡ d.opened
 
--- there is room for each behaviour that has no row yet: for its spawn, its start and its end, for its home, and in the ready list for all;
+-- there is space for each behaviour that has no row yet: for its spawn, its start and its end, for its home, and in the ready list for all;
 -- and each slot is kept in 32 bits
 pub record HasRooms (d : Parts) (homes_room ready_room : ℕ) : Type 0 where
   pub rooms : unrecorded (state d) ≤ d.log.rooms

@@ -13,6 +13,6 @@ pub record MakesStep (u : Underway) (row : Option ℕ) : Type 0 where
   pub steps : state.steps ≡ u.state.steps + 1
 
 -- A worker that serves this row, if any, can move: its turn makes a step; or it would, but that the row's next wish is due and
--- there is no room for it.
+-- there is no space for it.
 abbrev pub CanTurn : Underway → Option ℕ → Type 0
 CanTurn u row = MakesStep u row ⊎ HasNoRoom u row

@@ -3,7 +3,7 @@
 ghost use Rattle.std.specs.Prelude.{◌≡◌, length};
 
 use boc_program::limits::MOST_ROWS;
-use boc_program::short::{Args, Cowns, Inputs};
+use boc_program::short::{Args, Inputs};
 use boc_registers::compiled::CompiledBody;
 use boc_runs::step::Step;
 use thiserror::Error;
@@ -20,17 +20,15 @@ pub struct Job<'a> {
     pub ghost own_inputs: { length inputs.items ≡ body.cown_params },
 }
 
-/// A row, and what its behaviour is.
-#[derive(Drop, Debug)]
-pub struct ToldRow {
-    /// The number of the row.
-    pub row: u32,
-    /// The place of its body among the program's bodies.
-    pub kind: usize,
-    /// The values of its value parameters.
-    pub args: Args,
-    /// Its cowns in the order of its cown parameters.
-    pub cowns: Cowns,
+/// The rows of which a run reports what they are, as they end.
+#[derive(Clone, Copy, PartialEq, Eq, Debug)]
+pub enum Tell {
+    /// Of none.
+    Nothing,
+    /// Of those that end by a fault.
+    Faulted,
+    /// Of all.
+    All,
 }
 
 /// What `start` answers.
@@ -57,7 +55,7 @@ pub struct Leaving {
     pub(crate) row: u32,
 }
 
-// So many are named in the text of a fault.
+// The text of a fault names this number.
 const _: () = prove!(MOST_ROWS == 65_535);
 
 /// Why `open` refuses. Nothing has changed.
@@ -82,7 +80,7 @@ pub enum OpenFault {
 pub enum Advanced {
     /// This step was made.
     Moved(Step),
-    /// A settle is due, and the request before isn't flagged.
+    /// The next step is a settle, and the request before isn't flagged.
     Blocked,
     /// Own was made: the behaviour is enqueued.
     Enqueued,
@@ -114,7 +112,7 @@ pub enum Left {
     Unknown,
 }
 
-/// Somebody who can step.
+/// A behaviour that can step, by its row or its token.
 #[derive(Clone, Copy, PartialEq, Eq, Debug)]
 pub enum Mover {
     /// The row that is first in the ready list, where no behaviour is being enqueued, running or leaving.

@@ -3,13 +3,11 @@
 ghost use Rattle.boc_program.specs.Programs.{cown_count as cowns_of};
 ghost use Rattle.std.specs.Prelude.{◌≡◌, ◌↔◌, ◌+◌, ◌^◌, ◌<◌, ℕ, [], None, IfOk, IsTrue, false, map, replicate, slice_get};
 
-use crate::calls::{
-    Advanced, Child, FinishFault, Leaving, Left, Mover, OpenFault, Started, ToldRow,
-};
+use crate::calls::{Advanced, Child, FinishFault, Leaving, Left, Mover, OpenFault, Started};
 use crate::live::wished_behaviour;
 use crate::roster::{Enqueue, Roster};
 use boc_chain::{Chains, LinkChains};
-use boc_eval::{Frame, Outcome};
+use boc_eval::{Frame, Outcome, ToldRow};
 use boc_program::limits::MOST_ROWS;
 use boc_program::program::Program;
 use boc_registers::compiled::CompiledProgram;
@@ -28,7 +26,7 @@ pub struct Core<'a, C: Chains + Drop> {
     roster: Roster<'a, C>,
 }
 
-/// How many cowns a program has: for so many, chains are made.
+/// Returns how many cowns a program has; chains are made for that many.
 pub fn cown_count(program: &Program) -> usize
     ensures value { result ≡ cowns_of program.now.cowns }
 {
@@ -43,7 +41,7 @@ pub fn cown_count(program: &Program) -> usize
 impl<'a> Core<'a, LinkChains> {
     ghost use Rattle.boc_runs.specs.machine.Steps.{opening_state};
 
-    /// The opening state of a program: main is opened, its spawn is recorded, and it is ready.
+    /// Returns the opening state of a program: main is opened, its spawn is recorded, and it is ready.
     pub fn new(
         alloc: Global,
         program: &'a CompiledProgram<'a>,
@@ -79,7 +77,7 @@ impl<'a, C: Chains + Drop> Core<'a, C> {
     ghost use Rattle.boc_dispatch.specs.Told.{TellsRow};
     ghost use Rattle.boc_dispatch.specs.Calls.{Begins, OpensWish, AdvancesChild, FinishesRow, with_outcome, LeavesCown, NamesMover, EndsAsRecord};
 
-    /// The opening state over chains with no request: main is opened, its spawn is recorded, and it is ready.
+    /// Returns the opening state over chains with no request: main is opened, its spawn is recorded, and it is ready.
     pub fn over(
         alloc: Global,
         program: &'a CompiledProgram<'a>,
@@ -166,8 +164,7 @@ impl<'a, C: Chains + Drop> Core<'a, C> {
         }
     }
 
-    /// Ends a running behaviour: writes its outputs to its cowns, and records its end. Where it has cowns they are to be
-    /// released then.
+    /// Ends a running behaviour: writes its outputs to its cowns, and records its end. If it has cowns, they must be released then.
     pub fn finish(
         &mut self,
         row: u32,
@@ -181,7 +178,7 @@ impl<'a, C: Chains + Drop> Core<'a, C> {
         }
     }
 
-    // The same by an outcome that stays where it is, as it is large.
+    // Does the same by an outcome that stays where it is, as it is large.
     pub(crate) fn finish_by(
         &mut self,
         row: u32,
@@ -205,7 +202,7 @@ impl<'a, C: Chains + Drop> Core<'a, C> {
         }
     }
 
-    /// What the behaviour of a running row is whose body gave this.
+    /// Returns what the behaviour of a running row is, whose body gave this.
     pub fn told(&self, row: u32, outcome: &Outcome<'a>) -> Option<ToldRow>
         ensures { TellsRow self.now row outcome.now result }
     {
@@ -228,21 +225,21 @@ impl<'a, C: Chains + Drop> Core<'a, C> {
         }
     }
 
-    /// What has happened so far.
+    /// Returns what has happened so far.
     pub fn log(&self) -> Events<'_>
         ensures { result ≡ self.now.state.log }
     {
         self.roster.log.events()
     }
 
-    /// The chains, whose lists are the queues: each slot stands for a behaviour's number.
+    /// Returns the chains, whose lists are the queues: each slot stands for a behaviour's number.
     pub fn chains(&self) -> &C
         ensures { (number : ℕ → ℕ) × (map (λ requests. map (λ r. number r.slot) requests) (C.lists result.now) ≡ self.now.state.queues) }
     {
         &self.roster.chains
     }
 
-    /// The program.
+    /// Returns the program.
     pub fn program(&self) -> &'a Program
         ensures value { result.now ≡ self.now.program }
         ensures sound { IsSound self.now.program self.now.state }
@@ -250,56 +247,56 @@ impl<'a, C: Chains + Drop> Core<'a, C> {
         self.roster.program.program()
     }
 
-    /// The value of a cown, which changes only as behaviours end.
+    /// Returns the value of a cown, which changes only as behaviours end.
     pub fn value(&self, cown: u32) -> Option<i64>
         ensures { result ≡ slice_get (values self.now.program self.now.state) cown }
     {
         self.roster.values.get(cown as usize).copied()
     }
 
-    /// The values of the cowns, which change only as behaviours end.
+    /// Returns the values of the cowns, which change only as behaviours end.
     pub fn values(&self) -> &[i64]
         ensures { result.now ≡ values self.now.program self.now.state }
     {
         &self.roster.values
     }
 
-    /// Every behaviour has ended and released its cowns.
+    /// Returns whether every behaviour has ended and released its cowns.
     pub fn is_quiet(&self) -> bool
         ensures { IsTrue result ↔ IsQuiet self.now.state }
     {
         self.roster.gone == self.roster.opened
     }
 
-    /// The ready list has a behaviour, so that `start` starts one.
+    /// Returns whether the ready list has a behaviour, so that `start` starts one.
     pub fn has_ready(&self) -> bool
         ensures { (result ≡ false) ↔ (self.now.state.ready ≡ []) }
     {
         !self.roster.ready.is_empty()
     }
 
-    /// Somebody who can step, or nobody, exactly where it is quiet. It takes no memory.
+    /// Returns a mover that can step, or `None` exactly where it is quiet. It takes no memory.
     pub fn movable(&self) -> Option<Mover>
         ensures { NamesMover self.now result }
     {
         self.roster.movable()
     }
 
-    /// Whether `advance` would make a step: there is an open enqueue with this token, and its next step isn't blocked.
+    /// Returns whether `advance` would make a step: there is an open enqueue with this token, and its next step isn't blocked.
     pub fn can_advance(&self, child: &Child) -> bool
         ensures { IsTrue result ↔ CanAdvance self.now.program self.now.state child.now.number child.now.row }
     {
         self.roster.can_advance(child)
     }
 
-    /// Whether `leave` would make a step: there is a leaving behaviour with this token, and its next release isn't blocked.
+    /// Returns whether `leave` would make a step: there is a leaving behaviour with this token, and its next release isn't blocked.
     pub fn can_leave(&self, leaving: &Leaving) -> bool
         ensures { IsTrue result ↔ CanLeave self.now.state leaving.now.row }
     {
         self.roster.can_leave(leaving)
     }
 
-    /// How many steps were made.
+    /// Returns how many steps were made.
     pub fn steps(&self) -> u64
         ensures value { result ≡ self.now.state.steps }
         ensures few { result + 1 < 2 ^ 64 }
@@ -307,7 +304,7 @@ impl<'a, C: Chains + Drop> Core<'a, C> {
         self.roster.steps
     }
 
-    /// The record of the run where it is quiet; otherwise the dispatcher comes back unchanged. It takes no memory.
+    /// Returns the record of the run if it is quiet, otherwise the dispatcher unchanged. It takes no memory.
     pub fn into_record(self) -> Result<Record, Core<'a, C>>
         ensures { EndsAsRecord self.entry result }
     {

@@ -4,16 +4,17 @@ ghost use Rattle.std.specs.Prelude.{◌≡◌, ◌≢◌, ◌↔◌, ℕ, ◌<�
 ghost use Rattle.boc_dispatch.specs.declared.worker.Worker.{Worker};
 ghost use Rattle.boc_dispatch.specs.Driving.{Drives, DrivesQuiet, EndsFor, HandFits, HasPlayed, row_for};
 
-use crate::calls::{Mover, OpenFault};
+use crate::calls::{Mover, OpenFault, Tell};
 use crate::dispatcher::{Core, Dispatcher, cown_count};
 use crate::worker::{Refusal, Turn, Worker};
 use boc_chain::{Chains, LinkChains};
+use boc_eval::ToldRow;
 use boc_program::limits::MOST_ROWS;
 use boc_registers::compiled::CompiledProgram;
 use std::alloc::{AllocError, Global};
 use thiserror::Error;
 
-// So many are named in the text of a fault.
+// The text of a fault names this number.
 const _: () = prove!(MOST_ROWS == 65_535);
 
 /// Why a drive ends before its last choice.
@@ -45,11 +46,14 @@ ghost use Rattle.boc_runs.specs.machine.Turns.{TakesTurn};
 ghost use Rattle.boc_program.specs.Programs.{cown_count as cowns_of};
 ghost use Rattle.boc_dispatch.specs.declared.interleaving.DriveFault.{DriveFault};
 ghost use Rattle.boc_dispatch.specs.declared.worker.Hand.TheVariants as hands;
+ghost use Rattle.boc_runs.specs.machine.Steps.{members};
 ghost use Rattle.boc_dispatch.specs.Calls.{HasNoRoom};
+ghost use Rattle.boc_eval.specs.Instances.{AreRight};
+ghost use Rattle.boc_dispatch.specs.Told.{TellsThinking};
 ghost use Rattle.boc_dispatch.specs.Working.{row_in};
 
-/// Drives a program with so many workers, of which none serves a row at first. Each choice is the number of a worker, which
-/// thinks where that is due, and then makes one turn.
+/// Drives a program with the given number of workers, of which none serves a row at first. Each choice is the number of a worker, which thinks if it has to,
+/// and then makes one turn.
 pub fn drive<'a>(
     alloc: Global,
     program: &'a CompiledProgram<'a>,
@@ -62,7 +66,7 @@ pub fn drive<'a>(
     drive_over(alloc, program, chains, workers, choices)
 }
 
-/// The same over chains of either kind.
+/// Does the same over chains of either kind.
 pub fn drive_over<'a, C: Chains + Drop>(
     alloc: Global,
     program: &'a CompiledProgram<'a>,
@@ -81,7 +85,7 @@ pub fn drive_over<'a, C: Chains + Drop>(
 }
 
 /// Drives a program by the choices as `drive` does, and then on until it is quiet. Each further choice is the worker that
-/// serves whom `movable` names, and makes a step; a row that is to start is started by the first worker that serves none.
+/// serves the mover that `movable` names, and makes a step; a row that is to start is started by the first worker that serves none.
 pub fn drive_quiet<'a>(
     alloc: Global,
     program: &'a CompiledProgram<'a>,
@@ -94,7 +98,7 @@ pub fn drive_quiet<'a>(
     drive_quiet_over(alloc, program, chains, workers, choices)
 }
 
-/// The same over chains of either kind.
+/// Does the same over chains of either kind.
 pub fn drive_quiet_over<'a, C: Chains + Drop>(
     alloc: Global,
     program: &'a CompiledProgram<'a>,
@@ -121,7 +125,7 @@ pub fn drive_quiet_over<'a, C: Chains + Drop>(
     Ok(core)
 }
 
-// The workers and the dispatcher after the turns of all choices.
+// Returns the workers and the dispatcher after the turns of all choices.
 fn play<'a, C: Chains + Drop>(
     alloc: Global,
     program: &'a CompiledProgram<'a>,
@@ -145,7 +149,7 @@ fn play<'a, C: Chains + Drop>(
     Ok((crew, core))
 }
 
-// The first worker that serves who can step; or that serves nobody, where a row is to start.
+// Returns the first worker that serves this mover; or that serves no row, where a row is to start.
 fn server_of(crew: &[Worker<'_>], mover: Mover) -> Option<usize>
     ensures { MatchOption result
         ((k : ℕ) (w : Worker) → slice_get crew.now k ≡ Some w → row_in w.hand ≢ row_for mover)
@@ -160,7 +164,7 @@ fn server_of(crew: &[Worker<'_>], mover: Mover) -> Option<usize>
     None
 }
 
-// Whether a worker is to have the turn of who can step.
+// Returns whether a worker must take the turn of this mover.
 fn serves(worker: &Worker<'_>, mover: Mover) -> bool
     ensures { IsTrue result ↔ (row_in worker.now.hand ≡ row_for mover) }
 {
@@ -173,7 +177,7 @@ fn serves(worker: &Worker<'_>, mover: Mover) -> bool
     worker.row() == row
 }
 
-/// So many workers that serve nobody yet.
+/// Returns the given number of workers, which serve no row yet.
 pub fn idle_crew<'a>(alloc: Global, workers: u32) -> Result<Vec<Worker<'a>>, AllocError>
     ensures { IfOk result (λ crew. map (λ worker. worker.hand) crew.items ≡ replicate workers hands.Nothing) }
 {
@@ -184,7 +188,7 @@ pub fn idle_crew<'a>(alloc: Global, workers: u32) -> Result<Vec<Worker<'a>>, All
     Ok(crew)
 }
 
-/// A worker thinks where that is due, and makes one turn.
+/// Lets a worker think if it has to, and make one turn.
 pub fn take_turn<'a, C: Chains + Drop>(
     alloc: Global,
     worker: &mut Worker<'a>,
@@ -199,7 +203,32 @@ pub fn take_turn<'a, C: Chains + Drop>(
     ensures full { result ≡ Err DriveFault.Behaviours → HasNoRoom core.old (row_in worker.old.hand) }
     ensures served { (place : ℕ) → result ≢ Err (DriveFault.NoSuchWorker place) }
 {
+    let mut told = Vec::new(alloc);
+    take_told_turn(alloc, worker, core, Tell::Nothing, &mut told)
+}
+
+/// Does the same. If the row's end comes next and what the row is has to be reported, the worker first appends that to what was reported before.
+pub fn take_told_turn<'a, C: Chains + Drop>(
+    alloc: Global,
+    worker: &mut Worker<'a>,
+    core: &mut Core<'a, C>,
+    tell: Tell,
+    told: &mut Vec<ToldRow>,
+) -> Result<(), DriveFault>
+    requires sound { IsSound core.old.program core.old.state }
+    requires fits { HandFits core.old worker.old.hand }
+    ensures turn { OnOk result (TakesTurn core.old.program core.old.state (row_in worker.old.hand)
+        core.new.state (row_in worker.new.hand)) }
+    ensures program { OnOk result (core.new.program ≡ core.old.program) }
+    ensures fits { OnOk result (HandFits core.new worker.new.hand) }
+    ensures told { OnOk result (TellsThinking tell core.old worker.old.hand told.old.items told.new.items) }
+    ensures right { OnOk result (AreRight (members core.old.program core.old.state) told.old.items
+        → AreRight (members core.new.program core.new.state) told.new.items) }
+    ensures full { result ≡ Err DriveFault.Behaviours → HasNoRoom core.old (row_in worker.old.hand) }
+    ensures served { (place : ℕ) → result ≢ Err (DriveFault.NoSuchWorker place) }
+{
     worker.think(alloc)?;
+    worker.tell_ending(core, tell, told)?;
     match worker.turn(core) {
         Turn::Moved(_) | Turn::Blocked | Turn::NoneReady | Turn::Quiet => Ok(()),
         Turn::Refused(refusal) => Err(fault_of(refusal)),
@@ -207,7 +236,7 @@ pub fn take_turn<'a, C: Chains + Drop>(
     }
 }
 
-// Why a drive ends where a call is refused so.
+// Returns the fault with which a drive ends where a call is refused for this.
 fn fault_of(refusal: Refusal) -> DriveFault
     requires { (fault : DriveFault) × EndsFor refusal fault }
     ensures { EndsFor refusal result }

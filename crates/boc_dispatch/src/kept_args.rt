@@ -7,7 +7,7 @@ use boc_program::short::Args;
 use std::alloc::{AllocError, Global};
 use std::marker::Model;
 
-/// At most eight arguments, in little room: many behaviours wait at once, and most have one argument or none.
+/// At most eight arguments, in little memory: many behaviours wait at once, and most have one argument or none.
 /// Contracts see them as those of `Args`.
 #[derive(Drop, Debug)]
 pub struct KeptArgs {
@@ -32,14 +32,14 @@ impl Model for KeptArgs {
 }
 
 impl KeptArgs {
-    /// No arguments.
+    /// Returns no arguments.
     pub fn new() -> KeptArgs
         ensures { result.items ≡ [] }
     {
         KeptArgs { list: List::None }
     }
 
-    /// These arguments. More than one take memory; `AllocError` says that it was refused.
+    /// Returns these arguments, kept. More than one take memory; `AllocError` says that it was refused.
     pub fn of(alloc: Global, args: &Args) -> Result<KeptArgs, AllocError>
         ensures { IfOk result (λ kept. kept.items ≡ args.now.items) }
     {
@@ -51,7 +51,7 @@ impl KeptArgs {
         Ok(KeptArgs { list })
     }
 
-    /// The arguments, in their order.
+    /// Returns the arguments, in their order.
     pub fn as_slice(&self) -> &[i64]
         ensures value { result.now ≡ self.now.items }
         ensures few { length result.now ≤ MOST_ARGUMENTS }

@@ -41,7 +41,7 @@ impl Model for KeptStage {
 }
 
 impl KeptStage {
-    /// The requests below this one are settled, and it is exchanged or not.
+    /// Returns the stage in which the requests below this one are settled, and it is exchanged or not.
     pub fn asking(request: usize, exchanged: bool) -> KeptStage
         requires { request < 2 ^ 8 }
         ensures { result ≡ Asking request exchanged }
@@ -58,7 +58,7 @@ impl KeptStage {
         }
     }
 
-    /// The spawn is recorded under this row, and the behaviour is in this phase.
+    /// Returns the stage in which the spawn is recorded under this row, and the behaviour is in this phase.
     pub fn recorded(row: u32, phase: Phase) -> KeptStage
         requires { request_of phase < 2 ^ 8 }
         ensures { result ≡ Recorded row phase }
@@ -78,7 +78,7 @@ impl KeptStage {
         }
     }
 
-    /// The stage.
+    /// Returns the stage.
     #[inline(always)]
     pub fn stage(&self) -> Stage
         ensures { result ≡ self.now }

@@ -52,10 +52,10 @@ pub struct Live {
     pub child: Option<u32>,
 }
 
-// Many behaviours wait at once: no room is lost between the fields.
+// Many behaviours wait at once: no memory is lost between the fields.
 const _: () = prove!(size_of::<Option<Live>>() == 80);
 
-/// Main as it is opened: its spawn is recorded, and it is ready.
+/// Returns main as it is opened: its spawn is recorded, and it is ready.
 pub fn main_behaviour() -> Live
     ensures behaviour { behaviour_of result ≡ record { kind = 0; args = []; cowns = [] } }
     ensures state { open_of result ≡ record { parent = 0; offset = 0; cowns = []; stage = Recorded 0 phases.Ready } }
@@ -76,7 +76,7 @@ pub fn main_behaviour() -> Live
     }
 }
 
-// Some cowns in their order and in rising order. Mostly they rise as they stand.
+// Returns some cowns in their order and in rising order. Mostly they rise as given.
 #[tactic(auto, using(boc_program::proofs::RisingNumbers::rising_is))]
 fn held_cowns(cowns: &Cowns) -> (HeldCowns, HeldCowns)
     requires { All (λ c. c < MOST_COWNS) cowns.now.items }
@@ -92,7 +92,7 @@ fn held_cowns(cowns: &Cowns) -> (HeldCowns, HeldCowns)
     (held, rising)
 }
 
-/// The behaviour of a row's wish as it is opened, under a number of its own. `AllocError` says that memory was refused.
+/// Returns the behaviour of a row's wish as it is opened, under a number of its own. `AllocError` says that memory was refused.
 pub fn wished_behaviour(
     alloc: Global,
     number: u32,
@@ -125,7 +125,7 @@ pub fn wished_behaviour(
     })
 }
 
-// These are the cowns, with these values.
+// Returns whether these are the cowns, with these values.
 fn are_inputs_of(inputs: &[Input], cowns: &[HeldCown], values: &[i64]) -> bool
     requires { AllBelow (length values.now) cowns.now }
     ensures { IsTrue result ↔ (inputs.now ≡ inputs_at cowns.now values.now) }
@@ -142,7 +142,7 @@ fn are_inputs_of(inputs: &[Input], cowns: &[HeldCown], values: &[i64]) -> bool
 }
 
 impl Live {
-    /// It runs as this row on this body, these arguments and inputs. While it runs, its inputs are the values that its
+    /// Returns whether it runs as this row on this body, these arguments and inputs. While it runs, its inputs are the values that its
     /// cowns have.
     pub fn runs_on(
         &self,
@@ -164,7 +164,7 @@ impl Live {
             && self.has_inputs(values, inputs)
     }
 
-    // It runs as this row.
+    // Returns whether it runs as this row.
     fn is_running(&self, row: u32) -> bool
         ensures { IsTrue result ↔ (self.now.stage ≡ Recorded row phases.Running) }
     {
@@ -175,7 +175,7 @@ impl Live {
         self.stage.stage() == runs
     }
 
-    // This is its body.
+    // Returns whether this is its body.
     fn has_body(&self, program: &Program, body: &Body) -> bool
         requires { self.now.kind < length program.now.bodies }
         ensures { IsTrue result ↔ (slice_get program.now.bodies self.now.kind ≡ Some body.now) }
@@ -183,14 +183,14 @@ impl Live {
         *program.body(self.kind as usize) == *body
     }
 
-    // These are its arguments.
+    // Returns whether these are its arguments.
     fn has_args(&self, args: &[i64]) -> bool
         ensures { IsTrue result ↔ (args.now ≡ self.now.args.items) }
     {
         args == self.args.as_slice()
     }
 
-    // These are its cowns, with these values.
+    // Returns whether these are its cowns, with these values.
     fn has_inputs(&self, values: &[i64], inputs: &[Input]) -> bool
         requires { AllBelow (length values.now) self.now.params.items }
         ensures { IsTrue result ↔ (inputs.now ≡ inputs_at self.now.params.items values.now) }
@@ -198,14 +198,14 @@ impl Live {
         are_inputs_of(inputs, self.params.as_slice(), values)
     }
 
-    /// Of so many wishes the last is the next to be spawned, and nothing is being enqueued.
+    /// Returns whether the last of `wishes` wishes is the next to be spawned, and nothing is being enqueued.
     pub fn opens_next(&self, wishes: u32) -> bool
         ensures { IsTrue result ↔ ((self.now.child ≡ None) × (wishes ≡ self.now.spawned + 1)) }
     {
         self.child.is_none() && wishes > 0 && wishes - 1 == self.spawned
     }
 
-    /// So many wishes were all spawned, and nothing is being enqueued.
+    /// Returns whether all of `wishes` wishes were spawned, and nothing is being enqueued.
     pub fn has_spawned(&self, wishes: u32) -> bool
         ensures { IsTrue result ↔ ((self.now.child ≡ None) × (wishes ≡ self.now.spawned)) }
     {
@@ -214,7 +214,7 @@ impl Live {
 }
 
 impl Live {
-    /// The row under which its spawn is recorded, if it is.
+    /// Returns the row under which its spawn is recorded, if it is.
     pub fn row(&self) -> Option<u32>
         ensures { result ≡ row_at self.now.stage }
     {
@@ -224,7 +224,7 @@ impl Live {
         }
     }
 
-    /// Which request it releases next, where it has ended as this row.
+    /// Returns which request it releases next, where it has ended as this row.
     pub fn leaving(&self, row: u32) -> Option<usize>
         ensures { (request : ℕ) → (result ≡ Some request) ↔ (self.now.stage ≡ Recorded row (phases.Leaving request)) }
     {
@@ -237,7 +237,7 @@ impl Live {
         }
     }
 
-    /// It goes on with the flag of this request; behind the last its enqueue is over but for Own.
+    /// Returns the phase in which it goes on with the flag of this request; after the last its enqueue has ended except for Own.
     pub fn flagging(&self, request: usize) -> Phase
         ensures phase { result ≡ flagging self.now.cowns.items request }
         ensures few { request_of result < 2 ^ 8 }
@@ -249,7 +249,7 @@ impl Live {
         }
     }
 
-    /// It is in this phase of its row from now on.
+    /// Puts it into this phase of its row.
     pub fn go_on(&mut self, row: u32, phase: Phase)
         requires { request_of phase < 2 ^ 8 }
         ensures { self.new ≡ in_phase row phase self.old }

@@ -13,7 +13,7 @@ use boc_chain::{Chains, Slot};
 use boc_runs::stage::{Phase, Stage};
 
 impl<'a, C: Chains + Drop> Roster<'a, C> {
-    /// Somebody who can step, unless all is over.
+    /// Returns a mover that can step, unless everything has ended.
     pub fn movable(&self) -> Option<Mover>
         requires { IsSoundRoster C.lists C.place self.now }
         ensures { NamesMover (underway (parts_of C.lists C.place self.now)) result }
@@ -24,7 +24,7 @@ impl<'a, C: Chains + Drop> Roster<'a, C> {
         }
     }
 
-    // One of those that are being enqueued, run or leave, who can step.
+    // Returns one of those that are being enqueued, run or leave, which can step.
     fn movable_worker(&self) -> Option<Mover>
         requires { IsSoundRoster C.lists C.place self.now }
         ensures { NamesWorker (parts_of C.lists C.place self.now) result }
@@ -37,7 +37,7 @@ impl<'a, C: Chains + Drop> Roster<'a, C> {
         None
     }
 
-    // The behaviour at a slot, if it can step.
+    // Returns the behaviour at a slot, if it can step.
     fn mover_at(&self, slot: usize) -> Option<Mover>
         requires { IsSoundRoster C.lists C.place self.now }
         ensures { MovesAtOrNot (parts_of C.lists C.place self.now) slot result }
@@ -48,7 +48,7 @@ impl<'a, C: Chains + Drop> Roster<'a, C> {
         }
     }
 
-    // The behaviour at a slot, which is this one, if it can step.
+    // Returns the behaviour at a slot, which is this one, if it can step.
     fn mover_of(&self, slot: usize, live: &Live) -> Option<Mover>
         requires sound { IsSoundRoster C.lists C.place self.now }
         requires is { live_at (parts_of C.lists C.place self.now).live slot ≡ Some live.now }
@@ -89,7 +89,7 @@ impl<'a, C: Chains + Drop> Roster<'a, C> {
         }
     }
 
-    // The first of the ready list, where nobody works.
+    // Returns the first of the ready list, where no behaviour is at work.
     fn first_ready(&self) -> Option<Mover>
         requires sound { IsSoundRoster C.lists C.place self.now }
         requires idle { NobodyWorks (state (parts_of C.lists C.place self.now)) }
@@ -100,7 +100,7 @@ impl<'a, C: Chains + Drop> Roster<'a, C> {
         Some(Mover::Ready(row))
     }
 
-    /// Whether there is an open enqueue with this token, whose next step isn't blocked.
+    /// Returns whether there is an open enqueue with this token, whose next step isn't blocked.
     pub fn can_advance(&self, child: &Child) -> bool
         requires { IsSoundRoster C.lists C.place self.now }
         ensures { IsTrue result
@@ -127,7 +127,7 @@ impl<'a, C: Chains + Drop> Roster<'a, C> {
         }
     }
 
-    /// Whether there is a leaving behaviour with this token, whose next release isn't blocked.
+    /// Returns whether there is a leaving behaviour with this token, whose next release isn't blocked.
     pub fn can_leave(&self, leaving: &Leaving) -> bool
         requires { IsSoundRoster C.lists C.place self.now }
         ensures { IsTrue result ↔ CanLeave (state (parts_of C.lists C.place self.now)) leaving.now.row }

@@ -18,7 +18,7 @@ use boc_runs::stage::{Phase, Stage};
 use boc_runs::values::{inputs_of, write_outputs};
 
 impl Live {
-    /// It starts on the current values. Answers what its body is to be run on.
+    /// Starts it on the current values. Returns what its body is run on.
     pub fn begin<'a>(&mut self, program: &'a CompiledProgram<'a>, values: &[i64]) -> Job<'a>
         requires recorded { IsSome (row_at self.old.stage) }
         requires counts { let signature = slice_get (map signature_of program.now.bodies) self.old.kind in
@@ -40,7 +40,7 @@ impl Live {
         }
     }
 
-    /// The row under which its spawn is recorded.
+    /// Returns the row under which its spawn is recorded.
     pub fn recorded_row(&self) -> u32
         requires { IsSome (row_at self.now.stage) }
         ensures { row_at self.now.stage ≡ Some result }
@@ -48,21 +48,21 @@ impl Live {
         self.row().unwrap()
     }
 
-    /// A wish of it is being enqueued at this slot.
+    /// Notes that a wish of it is being enqueued at this slot.
     pub fn begin_child(&mut self, child: u32)
         ensures { self.new ≡ with_child (Some child) self.old }
     {
         self.child = Some(child);
     }
 
-    /// None of its wishes is being enqueued any more.
+    /// Notes that none of its wishes is being enqueued any more.
     pub fn end_child(&mut self)
         ensures { self.new ≡ with_child None self.old }
     {
         self.child = None;
     }
 
-    /// One more of its wishes is spawned.
+    /// Counts one more of its wishes as spawned.
     pub fn count_spawn(&mut self)
         requires { self.old.spawned + 1 < 2 ^ 32 }
         ensures { self.new ≡ with_spawn self.old }
@@ -70,7 +70,7 @@ impl Live {
         self.spawned += 1;
     }
 
-    /// This request is exchanged.
+    /// Notes that this request is exchanged.
     pub fn ask(&mut self, request: usize)
         requires { request < length self.old.cowns.items }
         ensures { self.new ≡ exchanged request self.old }
@@ -80,7 +80,7 @@ impl Live {
         self.stage = KeptStage::asking(request, true);
     }
 
-    /// This request is settled, and so many more are granted. Answers whether it was the last.
+    /// Notes that this request is settled, and that `granted` more are granted. Returns whether it was the last.
     pub fn settle_next(&mut self, request: usize, granted: u8) -> bool
         requires low { request < length self.old.cowns.items }
         requires awaited { granted ≤ self.old.awaited }
@@ -93,7 +93,7 @@ impl Live {
         request + 1 == count
     }
 
-    /// Its spawn is recorded under this row. Answers the event.
+    /// Records its spawn under this row. Returns the event.
     pub fn record(&mut self, row: u32) -> Event
         ensures recorded { self.new ≡ with_row row self.old }
         ensures event { result ≡ spawn_of row self.old }
@@ -107,7 +107,7 @@ impl Live {
         }
     }
 
-    /// This request is flagged.
+    /// Notes that this request is flagged.
     pub fn flag_next(&mut self, row: u32, request: usize)
         requires { request < length self.old.cowns.items }
         ensures { self.new ≡ in_phase row (flagging self.old.cowns.items (suc request)) self.old }
@@ -117,14 +117,14 @@ impl Live {
         self.go_on(row, self.flagging(request + 1));
     }
 
-    /// Its enqueue is over.
+    /// Ends its enqueue.
     pub fn wait(&mut self, row: u32)
         ensures { self.new ≡ in_phase row phases.Waiting self.old }
     {
         self.go_on(row, Phase::Waiting);
     }
 
-    /// It awaits one thing less; where it awaits nothing more it waits no longer. Answers whether it is ready.
+    /// Counts one thing less that it awaits; where it awaits nothing more it waits no longer. Returns whether it is ready.
     pub fn grant_one(&mut self) -> bool
         requires { 0 < self.old.awaited }
         ensures grants { (row : ℕ) → row_at self.old.stage ≡ Some row → self.new ≡ with_grant row self.old }
@@ -141,7 +141,7 @@ impl Live {
         true
     }
 
-    /// It has ended, and its outputs are written to its cowns. Answers whether it has any.
+    /// Notes that it has ended, and its outputs are written to its cowns. Returns whether it has any.
     pub fn end(&mut self, row: u32, values: &mut [i64], outputs: &[i64]) -> bool
         requires below { AllBelow (length values.old) self.old.params.items }
         requires both { length self.old.params.items ≡ length outputs.now }
@@ -154,7 +154,7 @@ impl Live {
         !self.cowns.as_slice().is_empty()
     }
 
-    /// This request is released. Answers whether it was the last.
+    /// Notes that this request is released. Returns whether it was the last.
     pub fn leave_next(&mut self, row: u32, request: usize) -> bool
         requires { request < length self.old.cowns.items }
         ensures released { self.new ≡ in_phase row (phases.Leaving (suc request)) self.old }

@@ -6,10 +6,10 @@ ghost use Rattle.slab.specs.Slab.{HasRoomFor};
 ghost use Rattle.std.specs.VecDeque.{deque_capacity};
 ghost use Rattle.boc_dispatch.specs.Inside.{live_at};
 
-use crate::calls::{Advanced, Child, Job, Left, ToldRow};
+use crate::calls::{Advanced, Child, Job, Left};
 use crate::live::{Live, main_behaviour};
 use boc_chain::{Chains, Released, Settled, Slot};
-use boc_eval::{Frame, Outcome, SpawnWish};
+use boc_eval::{Frame, Instance, Outcome, SpawnWish, ToldRow};
 use boc_program::body::Body;
 use boc_program::short::{Args, Cowns, Input};
 use boc_registers::compiled::CompiledProgram;
@@ -33,7 +33,7 @@ pub struct Roster<'a, C: Chains + Drop> {
     pub homes: Vec<u32>,
     /// The slots of the ready behaviours, in the order in which they will start.
     pub ready: VecDeque<u32>,
-    /// The log, with room for each behaviour that was opened.
+    /// The log, with capacity for each behaviour that was opened.
     pub log: RunLog,
     /// The values of the cowns.
     pub values: Vec<i64>,
@@ -55,7 +55,7 @@ pub struct Enqueue {
 // Links name slots in 16 bits, which is enough for as many behaviours as a run may have.
 const MOST_SLOTS: usize = 1 << 16;
 
-// Makes room for one behaviour more, and in the ready list for as many as there is room for. Answers the slot that comes next.
+// Makes space for one more behaviour, and in the ready list for as many as the slab has capacity for. Returns the slot that comes next.
 fn next_slot(live: &mut Slab<Live>, ready: &mut VecDeque<u32>) -> Result<usize, AllocError>
     ensures slots { live.new.slots ≡ live.old.slots }
     ensures next { IfOk result (λ slot. slot ≡ live.new.vacant_key) }
@@ -71,7 +71,7 @@ fn next_slot(live: &mut Slab<Live>, ready: &mut VecDeque<u32>) -> Result<usize, 
     let room = live.capacity();
     ready.reserve(room.saturating_sub(ready.len()))?;
     let slot = live.vacant_key();
-    // The slab has so much room only for as many behaviours at once, of which a run has fewer.
+    // The slab has this capacity only for as many behaviours at once, of which a run has fewer.
     if room > MOST_SLOTS || slot >= MOST_SLOTS {
         return Err(AllocError);
     }
@@ -101,7 +101,7 @@ fn admit_at<C: Chains>(chains: &mut C, slot: usize, cowns: Cowns) -> Result<(), 
 
 ghost use Rattle.boc_runs.specs.declared.event.Event.TheVariants.{End as EndEvent};
 
-// The end of a row, as its body ended.
+// Returns the end of a row, as its body ended.
 fn end_event(row: u32, outcome: &Outcome) -> Event
     ensures { result ≡ EndEvent row outcome.now.ticks outcome.now.status (record { items = outcome.now.written }) }
 {
@@ -125,14 +125,14 @@ impl<'a, C: Chains + Drop> Roster<'a, C> {
     ghost use Rattle.boc_eval.specs.Wishes.{wish_of};
     ghost use Rattle.boc_dispatch.specs.declared.calls.Advanced.TheVariants as advanced;
     ghost use Rattle.boc_dispatch.specs.Calls.{IsHandedOut, IsNextWish, HasSpawnedAll, IsLeaving};
-    ghost use Rattle.boc_dispatch.specs.Told.{IsTrueOf};
+    ghost use Rattle.boc_eval.specs.Instances.{IsTrueOf};
     ghost use Rattle.boc_chain.specs.Chain.{times, slots, list};
     ghost use Rattle.boc_dispatch.specs.Inside.{parts_of, state, underway, IsSoundRoster, IsAtStage, IsStageAt, IsOfRow, HasInHand, GoesOn, IsNew};
     ghost use Rattle.boc_dispatch.specs.Grants.{MayBeGranted, with_granted, IsRemoved, IsReleased, LeftAs};
     ghost use Rattle.boc_dispatch.specs.Moves.{MayPut, Puts, vacated, MayRecord, Records, counted, StartsJob, OpensChild, IsFoundEnqueue, SettlesNext};
     ghost use Rattle.boc_dispatch.specs.Moves.{EndsBehaviour, ReleasesNext, IsFoundLeaving};
 
-    /// Main is opened over chains with no request, its spawn is recorded, and it is ready.
+    /// Opens main over chains with no request: its spawn is recorded, and it is ready.
     pub fn over(
         alloc: Global,
         program: &'a CompiledProgram<'a>,
@@ -154,7 +154,7 @@ impl<'a, C: Chains + Drop> Roster<'a, C> {
         let slot = next_slot(&mut live, &mut ready)?;
         admit_at(&mut chains, slot, Cowns::new())?;
         live.insert_reserved(main_behaviour());
-        // That its slots are no more than there is room for is told by `capacity` alone.
+        // Only `capacity` says that its slots are within its capacity.
         let room = live.capacity();
         prove!(slot < room);
         homes.push_reserved(slot as u32);
@@ -192,7 +192,7 @@ impl<'a, C: Chains + Drop> Roster<'a, C> {
         Some(job)
     }
 
-    // The slot of a row's behaviour, if that isn't gone.
+    // Returns the slot of a row's behaviour, if that isn't gone.
     fn slot_of(&self, row: u32) -> Option<usize>
         requires { IsSoundRoster C.lists C.place self.now }
         ensures { MatchOption result
@@ -206,7 +206,7 @@ impl<'a, C: Chains + Drop> Roster<'a, C> {
         }
     }
 
-    /// The slot of a row's behaviour, where that runs on this body, these arguments and inputs.
+    /// Returns the slot of a row's behaviour, where that runs on this body, these arguments and inputs.
     pub fn running(&self, row: u32, body: &Body, args: &[i64], inputs: &[Input]) -> Option<usize>
         requires { IsSoundRoster C.lists C.place self.now }
         ensures { MatchOption result
@@ -230,7 +230,7 @@ impl<'a, C: Chains + Drop> Roster<'a, C> {
         }
     }
 
-    /// The frame's last wish, where it is the next to be spawned of the behaviour at a slot, which runs, and nothing is being
+    /// Returns the frame's last wish, where it is the next to be spawned of the behaviour at a slot, which runs, and nothing is being
     /// enqueued.
     pub fn next_wish<'f>(
         &self,
@@ -270,13 +270,13 @@ impl<'a, C: Chains + Drop> Roster<'a, C> {
         let own = next_slot(&mut self.live, &mut self.ready)?;
         admit_at(&mut self.chains, own, child.cowns.widened())?;
         self.live.insert_reserved(child);
-        // As in `over`, this tells that the slots are no more than there is room for.
+        // As in `over`, this says that the slots are within the capacity.
         let room = self.live.capacity();
         prove!(own < room);
         Ok(self.put_child(slot, own as u32))
     }
 
-    // A child, which is at its slot, is in the hand of the behaviour at a slot, whose wish it is.
+    // Puts a child, which is at its slot, into the hand of the behaviour at a slot, whose wish it is.
     fn put_child(&mut self, parent: usize, slot: u32) -> Child
         requires { (child : Live) × (live_at self.old.live.slots slot ≡ Some child)
             × MayPut (vacated slot (parts_of C.lists C.place self.old)) (vec_capacity self.old.homes) parent slot child }
@@ -299,7 +299,7 @@ impl<'a, C: Chains + Drop> Roster<'a, C> {
         token
     }
 
-    // One step is made. Where the requests of the behaviour at a slot are all settled, its spawn is recorded by its parent's.
+    // Counts one step. Where the requests of the behaviour at a slot are all settled, its spawn is recorded by its parent's.
     fn step_asking(&mut self, parent: usize, slot: u32, is_settled: bool)
         requires fits { self.old.steps + 1 < 2 ^ 64 }
         requires may { is_settled ≡ true → MayRecord (parts_of C.lists C.place self.old) (vec_capacity self.old.homes) parent slot }
@@ -328,7 +328,7 @@ impl<'a, C: Chains + Drop> Roster<'a, C> {
         self.homes.push_reserved(slot);
     }
 
-    /// The open enqueue with this token.
+    /// Returns the open enqueue with this token.
     pub fn enqueue_of(&self, child: &Child) -> Option<Enqueue>
         requires { IsSoundRoster C.lists C.place self.now }
         ensures { MatchOption result
@@ -420,7 +420,7 @@ impl<'a, C: Chains + Drop> Roster<'a, C> {
         Advanced::Enqueued
     }
 
-    // The behaviour at a slot awaits one thing less. Where it awaits nothing more it joins the ready list.
+    // Counts one thing less that the behaviour at a slot awaits. Where it awaits nothing more it joins the ready list.
     fn grant(&mut self, slot: u32)
         requires { MayBeGranted (parts_of C.lists C.place self.old) slot (deque_capacity self.old.ready) }
         ensures granted { parts_of C.lists C.place self.new ≡ with_granted slot (parts_of C.lists C.place self.old) }
@@ -431,7 +431,7 @@ impl<'a, C: Chains + Drop> Roster<'a, C> {
         }
     }
 
-    /// So many wishes of the behaviour at a slot, which runs, were all spawned, and nothing is being enqueued.
+    /// Returns whether all of `wishes` wishes of the behaviour at a slot, which runs, were spawned, and nothing is being enqueued.
     pub fn has_spawned(&self, slot: usize, row: u32, wishes: u32) -> bool
         requires sound { IsSoundRoster C.lists C.place self.now }
         requires runs { IsStageAt (parts_of C.lists C.place self.now) slot (Recorded row phases.Running) }
@@ -440,7 +440,7 @@ impl<'a, C: Chains + Drop> Roster<'a, C> {
         self.live[slot].has_spawned(wishes)
     }
 
-    /// What the running behaviour of a row is, which is at a slot.
+    /// Returns what the running behaviour of a row is, which is at a slot.
     pub fn told(&self, slot: usize, row: u32) -> ToldRow
         requires sound { IsSoundRoster C.lists C.place self.now }
         requires runs { IsStageAt (parts_of C.lists C.place self.now) slot (Recorded row phases.Running) }
@@ -450,9 +450,11 @@ impl<'a, C: Chains + Drop> Roster<'a, C> {
         let live = &self.live[slot];
         ToldRow {
             row,
-            kind: live.kind as usize,
-            args: Args::try_from(live.args.as_slice()).unwrap(),
-            cowns: live.params.widened(),
+            instance: Instance {
+                kind: live.kind as usize,
+                args: Args::try_from(live.args.as_slice()).unwrap(),
+                cowns: live.params.widened(),
+            },
         }
     }
 
@@ -477,7 +479,7 @@ impl<'a, C: Chains + Drop> Roster<'a, C> {
         false
     }
 
-    // The behaviour at a slot is gone.
+    // Removes the behaviour at a slot.
     fn remove(&mut self, slot: usize)
         requires there { IsSome (live_at self.old.live.slots slot) }
         requires admitted { IsSome (C.place self.old.chains slot) }
@@ -491,7 +493,7 @@ impl<'a, C: Chains + Drop> Roster<'a, C> {
         self.gone += 1;
     }
 
-    /// The slot of a row's behaviour that releases its cowns, and which request it releases next.
+    /// Returns the slot of a row's behaviour that releases its cowns, and which request it releases next.
     pub fn leaving(&self, row: u32) -> Option<(usize, usize)>
         requires { IsSoundRoster C.lists C.place self.now }
         ensures { MatchOption result
@@ -521,8 +523,7 @@ impl<'a, C: Chains + Drop> Roster<'a, C> {
         }
     }
 
-    // This request of the leaving behaviour of a row, which is at a slot, is released by this step: it goes on with the next
-    // one, or is gone.
+    // Notes that this step releases this request of the leaving behaviour of a row, which is at a slot: it goes on with the next one, or is gone.
     #[inline(always)]
     fn leave_on(&mut self, slot: usize, row: u32, request: usize, step: Step) -> Left
         requires { IsReleased slot row request (parts_of C.lists C.place self.old)

@@ -1,21 +1,21 @@
 //! A worker that serves one behaviour after another.
 
-ghost use Rattle.std.specs.Prelude.{◌≡◌, ◌↔◌, ℕ, false, IfOk, IsTrue, None, length};
+ghost use Rattle.std.specs.Prelude.{◌≡◌, ◌↔◌, ℕ, false, IfOk, IsTrue, None, OnErr, OnOk, length};
 
-use crate::calls::{Advanced, Child, FinishFault, Job, Leaving, Left, OpenFault, Started, ToldRow};
+use crate::calls::{Advanced, Child, FinishFault, Job, Leaving, Left, OpenFault, Started, Tell};
 use crate::dispatcher::Core;
 use boc_chain::Chains;
-use boc_eval::{Frame, Outcome, Spare};
+use boc_eval::{Frame, Outcome, Spare, ToldRow};
 use boc_program::body::EndStatus;
 use boc_runs::step::Step;
 use std::alloc::{AllocError, Global};
 
-/// What is due of a row's frame.
+/// What a row's frame has to do next.
 #[derive(Clone, Copy)]
 enum Due {
-    /// It is to go on.
+    /// It must go on.
     Going,
-    /// Its last wish is to be opened.
+    /// Its last wish must be opened.
     Wishing,
     /// Its last wish is being enqueued.
     Enqueuing(Child),
@@ -26,9 +26,9 @@ enum Due {
 enum Hand<'a> {
     /// Nothing: it serves no row, and the next step is a start.
     Nothing,
-    /// A behaviour that was started, whose frame is to be made.
+    /// A behaviour that was started, whose frame must be made.
     Started(Job<'a>),
-    /// A row's frame, and what is due of it.
+    /// A row's frame, and what it has to do next.
     Framed(u32, Frame<'a>, Due),
     /// What a row's body gave that has ended.
     Done(u32, Outcome<'a>),
@@ -36,7 +36,7 @@ enum Hand<'a> {
     Leaving(Leaving),
 }
 
-/// A worker: its number, what it has in hand, and the room of its last body for the next one.
+/// A worker: its number, what it has in hand, and the memory of its last body for the next one.
 #[derive(Drop)]
 pub struct Worker<'a> {
     number: u32,
@@ -44,7 +44,7 @@ pub struct Worker<'a> {
     spare: Spare<'a>,
 }
 
-/// Why a call that was due is refused.
+/// Why a worker's next call is refused.
 #[derive(Clone, Copy, PartialEq, Eq, Debug)]
 pub enum Refusal {
     Open(OpenFault),
@@ -58,7 +58,7 @@ pub enum Refusal {
 pub enum Turn {
     /// This step was made.
     Moved(Step),
-    /// The step that is due is blocked.
+    /// The next step is blocked.
     Blocked,
     /// Nothing is ready.
     NoneReady,
@@ -66,7 +66,7 @@ pub enum Turn {
     Quiet,
     /// The worker is to think first. Nothing was done.
     Thinks,
-    /// The call that was due is refused. The worker keeps what it had.
+    /// The next call is refused. The worker keeps what it had.
     Refused(Refusal),
 }
 
@@ -76,13 +76,24 @@ ghost use Rattle.boc_dispatch.specs.declared.worker.Hand.TheVariants as hands;
 ghost use Rattle.boc_runs.specs.machine.Sound.{IsSound};
 ghost use Rattle.boc_dispatch.specs.Driving.{HandFits, KeepsFitting};
 ghost use Rattle.boc_dispatch.specs.Stepping.{CanTurn};
-ghost use Rattle.boc_dispatch.specs.Told.{EndsByFault, TellsEnding};
+ghost use Rattle.boc_dispatch.specs.Told.{HasTold, IsTold, TellsEnding, TellsOf};
 ghost use Rattle.boc_dispatch.specs.Working.{row_in, frame_of as frame_at_start, Enqueues, Goes, HasGiven, HasGoneOn, HasThought, IsDone, IsEnded, IsStarted};
 ghost use Rattle.boc_dispatch.specs.Working.{Wishes, Works};
 ghost use Rattle.boc_dispatch.specs.declared.calls.Child.{Child};
 ghost use Rattle.boc_eval.specs.Frames.{UnderWay as Framed};
 
-// The frame of a behaviour that was started.
+// Returns whether a row whose body gave this has to be reported.
+fn is_told(tell: Tell, outcome: &Outcome<'_>) -> bool
+    ensures { IsTrue result ↔ IsTold tell outcome.now }
+{
+    match tell {
+        Tell::Nothing => false,
+        Tell::All => true,
+        Tell::Faulted => outcome.status() != EndStatus::Done,
+    }
+}
+
+// Returns the frame of a behaviour that was started.
 fn frame_of<'a>(
     alloc: Global,
     spare: &mut Spare<'a>,
@@ -94,7 +105,7 @@ fn frame_of<'a>(
 }
 
 impl<'a> Worker<'a> {
-    /// A worker that serves nobody yet.
+    /// Returns a worker that serves no row yet.
     pub fn new(number: u32) -> Worker<'a>
         ensures { result ≡ record { number = number; hand = hands.Nothing; spare = None } }
     {
@@ -105,14 +116,14 @@ impl<'a> Worker<'a> {
         }
     }
 
-    /// Its number.
+    /// Returns its number.
     pub fn number(&self) -> u32
         ensures { result ≡ self.now.number }
     {
         self.number
     }
 
-    /// The row that it serves, if any.
+    /// Returns the row that it serves, if any.
     pub fn row(&self) -> Option<u32>
         ensures { result ≡ row_in self.now.hand }
     {
@@ -145,7 +156,7 @@ impl<'a> Worker<'a> {
         }
     }
 
-    /// Whether it can move, once it has thought: its turn makes a step, or would but that there is no room for its row's next wish.
+    /// Returns whether it can move, once it has thought: its turn makes a step, or would if there were space for its row's next wish.
     pub fn can_move<C: Chains + Drop>(&self, core: &Core<'a, C>) -> bool
         requires sound { IsSound core.now.program core.now.state }
         requires fits { HandFits core.now self.now.hand }
@@ -162,30 +173,50 @@ impl<'a> Worker<'a> {
         }
     }
 
-    /// Whether its row's end by a fault is due.
-    pub fn ends_by_fault(&self) -> bool
-        ensures { IsTrue result ↔ EndsByFault self.now.hand }
+    /// Returns whether its row's end comes next, and what the row is has to be reported.
+    pub fn tells(&self, tell: Tell) -> bool
+        ensures { IsTrue result ↔ TellsOf tell self.now.hand }
     {
         match &self.hand {
-            Hand::Done(_, outcome) => outcome.status() != EndStatus::Done,
+            Hand::Done(_, outcome) => is_told(tell, outcome),
             _ => false,
         }
     }
 
-    /// What its row's behaviour is, where the row's end by a fault is due.
-    pub fn ending<C: Chains + Drop>(&self, core: &Core<'a, C>) -> Option<ToldRow>
-        ensures { TellsEnding core.now self.now.hand result }
+    // Returns what its row's behaviour is, where the row's end comes next and that has to be reported.
+    fn ending<C: Chains + Drop>(&self, core: &Core<'a, C>, tell: Tell) -> Option<ToldRow>
+        ensures { TellsEnding tell core.now self.now.hand result }
     {
         match &self.hand {
-            Hand::Done(row, outcome) => match outcome.status() {
-                EndStatus::Done => None,
-                _ => core.told(*row, outcome),
-            },
+            Hand::Done(row, outcome) => {
+                if is_told(tell, outcome) {
+                    core.told(*row, outcome)
+                } else {
+                    None
+                }
+            }
             _ => None,
         }
     }
 
-    /// Makes the one call of the dispatcher that is due. Where what the worker had in hand fitted the dispatcher, what it has
+    /// Appends what its row is to what is reported, where the row's end comes next and that has to be reported. `AllocError` says that memory was refused; then
+    /// nothing has changed.
+    pub fn tell_ending<C: Chains + Drop>(
+        &self,
+        core: &Core<'a, C>,
+        tell: Tell,
+        told: &mut Vec<ToldRow>,
+    ) -> Result<(), AllocError>
+        ensures ok { OnOk result (HasTold tell core.now self.now.hand told.old.items told.new.items) }
+        ensures err { OnErr result (told.new.items ≡ told.old.items) }
+    {
+        if let Some(row) = self.ending(core, tell) {
+            told.push(row)?;
+        }
+        Ok(())
+    }
+
+    /// Makes the one call of the dispatcher that comes next. Where what the worker had in hand fitted the dispatcher, what it has
     /// then does.
     pub fn turn<C: Chains + Drop>(&mut self, core: &mut Core<'a, C>) -> Turn
         ensures works { Works core.old self.old.hand result core.new self.new.hand }
@@ -209,7 +240,7 @@ impl<'a> Worker<'a> {
     }
 }
 
-// The frame of a behaviour that was started is made, and goes on.
+// Makes the frame of a behaviour that was started, which goes on.
 fn take_up<'a>(alloc: Global, spare: &mut Spare<'a>, hand: &mut Hand<'a>) -> Result<(), AllocError>
     requires { IsStarted hand.old }
     ensures { HasThought hand.old result hand.new }
@@ -245,7 +276,7 @@ fn go_on(hand: &mut Hand<'_>)
     }
 }
 
-// This is due of a row's frame.
+// Sets what a row's frame has to do next.
 fn set_due(hand: &mut Hand<'_>, due: Due)
     ensures { (row : ℕ) (f : Framed) (before : Due) → hand.old ≡ hands.Framed row f before → hand.new ≡ hands.Framed row f due }
 {
@@ -265,7 +296,7 @@ fn end(hand: &mut Hand<'_>)
     };
 }
 
-// The turn of a worker that serves nobody.
+// Makes the turn of a worker that serves no row.
 fn begin<'a, C: Chains + Drop>(hand: &mut Hand<'a>, core: &mut Core<'a, C>) -> Turn
     requires { hand.old ≡ hands.Nothing }
     ensures works { Works core.old hand.old result core.new hand.new }
@@ -281,7 +312,7 @@ fn begin<'a, C: Chains + Drop>(hand: &mut Hand<'a>, core: &mut Core<'a, C>) -> T
     }
 }
 
-// The turn of a worker whose row wishes for a behaviour.
+// Makes the turn of a worker whose row wishes for a behaviour.
 fn open<'a, C: Chains + Drop>(hand: &mut Hand<'a>, core: &mut Core<'a, C>) -> Turn
     requires { Wishes hand.old }
     ensures works { Works core.old hand.old result core.new hand.new }
@@ -300,7 +331,7 @@ fn open<'a, C: Chains + Drop>(hand: &mut Hand<'a>, core: &mut Core<'a, C>) -> Tu
     }
 }
 
-// The turn of a worker whose row's wish is being enqueued.
+// Makes the turn of a worker whose row's wish is being enqueued.
 fn advance<'a, C: Chains + Drop>(hand: &mut Hand<'a>, child: Child, core: &mut Core<'a, C>) -> Turn
     requires { Enqueues hand.old child }
     ensures works { Works core.old hand.old result core.new hand.new }
@@ -317,7 +348,7 @@ fn advance<'a, C: Chains + Drop>(hand: &mut Hand<'a>, child: Child, core: &mut C
     }
 }
 
-// A row's frame is to go on once its wish is enqueued.
+// Lets a row's frame go on once its wish is enqueued.
 fn resume(hand: &mut Hand<'_>, child: Child)
     ensures { (row : ℕ) (f : Framed) → hand.old ≡ hands.Framed row f (dues.Enqueuing child) → hand.new ≡ hands.Framed child.row f dues.Going }
 {
@@ -327,7 +358,7 @@ fn resume(hand: &mut Hand<'_>, child: Child)
     set_due(hand, Due::Going);
 }
 
-// The turn of a worker whose row's body has ended.
+// Makes the turn of a worker whose row's body has ended.
 fn finish<'a, C: Chains + Drop>(
     spare: &mut Spare<'a>,
     hand: &mut Hand<'a>,
@@ -357,7 +388,7 @@ fn finish<'a, C: Chains + Drop>(
     }
 }
 
-// Nothing is in hand any more, and the room of the body that has ended is there for the next.
+// Clears the hand, and keeps the memory of the body that has ended for the next.
 fn clear<'a>(spare: &mut Spare<'a>, hand: &mut Hand<'a>)
     requires { IsDone hand.old }
     ensures { hand.new ≡ hands.Nothing }
@@ -368,7 +399,7 @@ fn clear<'a>(spare: &mut Spare<'a>, hand: &mut Hand<'a>)
     }
 }
 
-// The turn of a worker whose row releases its cowns.
+// Makes the turn of a worker whose row releases its cowns.
 fn leave<'a, C: Chains + Drop>(
     hand: &mut Hand<'a>,
     leaving: Leaving,

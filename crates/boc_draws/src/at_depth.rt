@@ -6,14 +6,16 @@ ghost use Rattle.boc_draws.specs.Ways.{AnswersWay};
 
 use crate::drawing::draw;
 use crate::fault::DrawFault;
-use crate::way::{Depth, Way};
+use crate::way::Way;
+use boc_dispatch::Tell;
+use boc_program::count::Depth;
 use boc_progress::Progress;
 use boc_registers::compiled::CompiledProgram;
 use std::alloc::Global;
 
-/// The way in which so many workers of a program are picked: at random among all that can move; or, where a depth is given, by random
+/// Returns the way in which this many workers of a program are picked: at random among all that can move; or, where a depth is given, by random
 /// priorities of this depth, with falls before as many steps as these workers make when they are picked at random among all by the seed 0. So the way is a
-/// function of the program, the workers and the depth, and a seed brings its run back by them. Where that draw ends by a fault, that is the answer.
+/// function of the program, the workers and the depth, and a seed repeats its run by them. Where that draw ends by a fault, that is the answer.
 /// `progress` receives that draw's steps.
 pub fn way_of(
     alloc: Global,
@@ -28,7 +30,15 @@ pub fn way_of(
     let Some(depth) = depth else {
         return Ok(Way::Uniform);
     };
-    let drawn = draw(alloc, program, workers, Way::Uniform, 0, progress)?;
+    let drawn = draw(
+        alloc,
+        program,
+        workers,
+        Way::Uniform,
+        0,
+        Tell::Nothing,
+        progress,
+    )?;
     Ok(Way::Priorities {
         depth,
         steps: drawn.steps,

@@ -1,7 +1,10 @@
 // A draw.
 
-ghost use Rattle.std.specs.Prelude.{◌≢◌, ℕ, ◌≤◌};
+ghost use Rattle.std.specs.Prelude.{◌≡◌, ◌≢◌, ℕ, ◌≤◌, [], IfOk};
 ghost use Rattle.boc_program.specs.declared.limits.TheConstants.{MOST_RUNNERS};
+ghost use Rattle.boc_runs.specs.Run.{config_of};
+ghost use Rattle.boc_runs.specs.machine.Steps.{members};
+ghost use Rattle.boc_eval.specs.Instances.{AreRight};
 ghost use Rattle.boc_dispatch.specs.declared.interleaving.DriveFault.TheVariants.{NoSuchWorker};
 ghost use Rattle.boc_draws.specs.Draws.{EndsBy, IsDraw, Plays};
 
@@ -9,7 +12,8 @@ use crate::fault::DrawFault;
 use crate::movers::movers_of;
 use crate::picker::Picker;
 use crate::way::Way;
-use boc_dispatch::{Dispatcher, DriveFault, idle_crew, take_turn};
+use boc_dispatch::{Dispatcher, DriveFault, Tell, idle_crew, take_told_turn};
+use boc_eval::ToldRow;
 use boc_progress::Progress;
 use boc_registers::compiled::CompiledProgram;
 use boc_runs::record::Record;
@@ -18,30 +22,37 @@ use std::alloc::Global;
 // Progress is reported once in this many steps.
 const STRETCH: u64 = 256;
 
-/// The record of a run that was drawn, the values of the cowns at its end, and how many steps were made.
+/// The record of a run that was drawn, the values of the cowns at its end, how many steps were made, and what its rows are.
 #[derive(Drop)]
 pub struct Drawn {
     pub record: Record,
     pub values: Vec<i64>,
     pub steps: u64,
+    /// What rows are, in the order in which they ended. A clause says that each row is what is said of it; which rows are there no clause says.
+    pub told: Vec<ToldRow>,
 }
 
-/// Runs a program by so many virtual workers on this thread. At each turn one of those that can move is picked in this way, by
-/// the words that the seed gives. It thinks where that is due, and makes its step; and so on until all is over. Where the one
-/// that is picked can't make its step, since there is no room for the next wish of its row, the draw ends by that fault.
-/// `progress` receives at every 256th step how many are made, of a number that is not known.
+/// Runs a program with this many virtual workers on this thread. At each turn one of those that can move is picked in this way, by
+/// the words that the seed gives. It thinks where that comes next, and makes its step; and so on until all has ended. Where the one
+/// that is picked can't make its step, since the run has as many behaviours as it may have, the draw ends by that fault.
+/// `tell` chooses the rows of which the draw says what they are. `progress` receives at every 256th step how many are made, of a number that is not known.
 pub fn draw(
     alloc: Global,
     program: &CompiledProgram<'_>,
     workers: u32,
     way: Way,
     seed: u64,
+    tell: Tell,
     progress: &mut dyn Progress,
 ) -> Result<Drawn, DrawFault>
     requires { (1 ≤ workers) × (workers ≤ MOST_RUNNERS) }
-    ensures { IsDraw program.now workers way seed result }
+    ensures draw { IsDraw program.now workers way seed result }
+    ensures told { IfOk result (λ d. AreRight (config_of program.now d.record.events).members d.told.items) }
 {
-    let core = play(alloc, program, workers, way, seed, progress)?;
+    let mut told = Vec::new(alloc);
+    let core = play(
+        alloc, program, workers, way, seed, tell, &mut told, progress,
+    )?;
     let values = Vec::from_slice(alloc, core.values())?;
     let steps = core.steps();
     match core.into_record() {
@@ -52,23 +63,28 @@ pub fn draw(
                 record,
                 values,
                 steps,
+                told,
             })
         }
         Err(_) => unreachable!(),
     }
 }
 
-// The dispatcher where all is over, after the turns of all workers that are picked.
+// Returns the dispatcher where all has ended, after the turns of all workers that are picked. What the chosen rows are is appended as they end.
 fn play<'a>(
     alloc: Global,
     program: &'a CompiledProgram<'a>,
     workers: u32,
     way: Way,
     seed: u64,
+    tell: Tell,
+    told: &mut Vec<ToldRow>,
     progress: &mut dyn Progress,
 ) -> Result<Dispatcher<'a>, DrawFault>
-    requires { (1 ≤ workers) × (workers ≤ MOST_RUNNERS) }
-    ensures { Plays program.now workers way seed result }
+    requires workers { (1 ≤ workers) × (workers ≤ MOST_RUNNERS) }
+    requires none_told { told.old.items ≡ [] }
+    ensures plays { Plays program.now workers way seed result }
+    ensures told { IfOk result (λ core. AreRight (members core.program core.state) told.new.items) }
 {
     let mut picker = Picker::new(way, workers, seed);
     let mut crew = idle_crew(alloc, workers)?;
@@ -80,7 +96,8 @@ fn play<'a>(
         }
         let movers = movers_of(&crew, &core);
         let worker = picker.pick(made, &movers);
-        if let Err(fault) = take_turn(alloc, &mut crew[worker as usize], &mut core) {
+        let mover = &mut crew[worker as usize];
+        if let Err(fault) = take_told_turn(alloc, mover, &mut core, tell, told) {
             return Err(fault_of(fault));
         }
     }

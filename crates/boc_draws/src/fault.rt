@@ -6,7 +6,7 @@ use boc_program::limits::MOST_ROWS;
 use std::alloc::AllocError;
 use thiserror::Error;
 
-// So many are named in the text of a fault.
+// This many are named in the text of a fault.
 const _: () = prove!(MOST_ROWS == 65_535);
 
 /// Why a draw gives no run.

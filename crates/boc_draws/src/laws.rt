@@ -11,7 +11,7 @@ ghost use Rattle.boc_draws.specs.declared.way.Way.{Way};
 ghost use Rattle.boc_draws.specs.Draws.{IsDraw, DrawsTo};
 ghost use Rattle.boc_draws.specs.Ways.{AnswersWay, IsWay};
 
-/// A draw is a function of the program, the number of workers, the way and the seed: two that were drawn have the same events, the
+/// Proves that a draw is a function of the program, the number of workers, the way and the seed: two that were drawn have the same events, the
 /// same number of cowns, the same values at the end and as many steps; and where one is drawn none runs out of room.
 pub fn one_draw()
     ensures events { (p : Program) (workers seed : ℕ) (way : Way) (a b : Drawn) → IsDraw p workers way seed (Ok a)
@@ -26,13 +26,14 @@ pub fn one_draw()
         → IsDraw p workers way seed (Err Behaviours) → ⊥ }
 {}
 
-/// What is drawn is one of the interleavings of the workers: the turns of those that are picked are turns.
+/// Proves that what is drawn is one of the interleavings of the workers: the turns of those that are picked are turns.
 pub fn draws_are_turns()
     ensures { (p : Program) (workers seed : ℕ) (way : Way) (choices : List ℕ) (e : Driven) (later : Picker)
         → DrawsTo p workers way seed choices e later → Turns p (opening_driven p workers) choices e }
 {}
 
-/// There is one way at most of a program, a number of workers and a depth; and where there is one, the draw that counts its steps doesn't run out of room.
+/// Proves that there is one way at most of a program, a number of workers and a depth; and where there is one, the draw that counts its steps doesn't run out
+/// of room.
 pub fn one_way()
     ensures one { (p : Program) (workers : ℕ) (depth : Option ℕ) (a b : Way) → IsWay p workers depth a → IsWay p workers depth b → a ≡ b }
     ensures either { (p : Program) (workers : ℕ) (depth : Option ℕ) (way : Way) → IsWay p workers depth way

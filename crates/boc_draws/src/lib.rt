@@ -11,6 +11,7 @@ mod picker;
 mod way;
 
 pub use at_depth::way_of;
+pub use boc_program::count::Depth;
 pub use drawing::{Drawn, draw};
 pub use fault::DrawFault;
-pub use way::{Depth, MOST_DEPTH, Way};
+pub use way::Way;

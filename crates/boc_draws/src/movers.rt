@@ -10,7 +10,7 @@ use arrayvec::ArrayVec;
 use boc_dispatch::{Dispatcher, Worker};
 use boc_program::limits::MOST_RUNNERS;
 
-/// The numbers of the workers of a crew that can move, in rising order.
+/// Returns the numbers of the workers of a crew that can move, in rising order.
 pub(crate) fn movers_of<'a>(
     crew: &[Worker<'a>],
     core: &Dispatcher<'a>,

@@ -5,9 +5,9 @@ ghost use Rattle.boc_program.specs.declared.limits.TheConstants.{MOST_RUNNERS};
 ghost use Rattle.boc_draws.specs.declared.picker.TheConstants.{MOST_FALLS};
 ghost use Rattle.boc_draws.specs.Picks.{drawn_below, first_among, order_before, picked, picker_of, shuffled, Meets, SomeAmong};
 
-use crate::way::{MOST_DEPTH, Way};
+use crate::way::Way;
 use arrayvec::ArrayVec;
-use boc_program::limits::MOST_RUNNERS;
+use boc_program::limits::{MOST_DEPTH, MOST_RUNNERS};
 use rand_core::SeedableRng;
 use rand_core::utils::NextWord;
 use rand_xoshiro::Xoshiro256PlusPlus;
@@ -28,7 +28,7 @@ pub(crate) enum Picker {
 }
 
 impl Picker {
-    /// The picker of a seed, for the first turn of so many workers.
+    /// Returns the picker of a seed, for the first turn of the given number of workers.
     pub(crate) fn new(way: Way, workers: u32, seed: u64) -> Picker
         requires { workers ≤ MOST_RUNNERS }
         ensures { result ≡ picker_of way workers seed }
@@ -44,7 +44,7 @@ impl Picker {
         }
     }
 
-    /// Which one of these moves next, where so many steps were made.
+    /// Returns which one of these moves next, where this many steps were made.
     pub(crate) fn pick(&mut self, steps: u64, movers: &[u32]) -> u32
         requires { Meets self.old movers.now }
         ensures { picked self.old steps movers.now ≡ (Some result, self.new) }
@@ -62,7 +62,7 @@ impl Picker {
     }
 }
 
-// So many workers in an order that is drawn.
+// Returns the given number of workers in an order that is drawn.
 fn shuffle(generator: &mut Xoshiro256PlusPlus, workers: u32) -> ArrayVec<u32, MOST_RUNNERS>
     requires { workers ≤ MOST_RUNNERS }
     ensures { (result.items, generator.new) ≡ shuffled workers generator.old }
@@ -75,7 +75,7 @@ fn shuffle(generator: &mut Xoshiro256PlusPlus, workers: u32) -> ArrayVec<u32, MO
     order
 }
 
-// So many numbers below a bound.
+// Returns the given number of numbers below a bound.
 fn draw_below(
     generator: &mut Xoshiro256PlusPlus,
     count: u32,
@@ -92,7 +92,7 @@ fn draw_below(
     numbers
 }
 
-// The place of the first of an order that is among these.
+// Returns the place of the first of an order that is among these.
 fn first_of(order: &[u32], movers: &[u32]) -> usize
     requires { SomeAmong order.now movers.now }
     ensures place { result ≡ first_among order.now movers.now }

@@ -1,4 +1,4 @@
-// The text of the ends that a program came to.
+// The text of the ends that a program reached.
 
 ghost use Rattle.std.specs.Prelude.{◌≡◌, ◌++◌, OnOk, IfOk};
 ghost use Rattle.std.specs.List.{All};
@@ -11,8 +11,8 @@ use boc_program::cown::Cown;
 use boc_text::put_number;
 use std::alloc::{AllocError, Global};
 
-/// The text of the ends that a program with these cowns came to in so many runs: how many runs there were, the bounds of how many rows they had and of their
-/// spans, and each end in its order, by how many runs came to it, the seed of the first of them, the bounds of their spans, and the text of
+/// Returns the text of the ends that a program with these cowns reached in the given number of runs: how many runs there were, the bounds of how many rows they
+/// had and of their spans, and each end in its order, by how many runs reached it, the seed of the first of them, the bounds of their spans, and the text of
 /// its values. `AllocError` says that memory was refused.
 pub fn outcomes_text(
     alloc: Global,
@@ -31,7 +31,7 @@ pub fn outcomes_text(
     Ok(text)
 }
 
-// The line of how many runs there were.
+// Writes the line of how many runs there were.
 fn put_runs(text: &mut Vec<u8>, runs: u32) -> Result<(), AllocError>
     ensures { OnOk result (text.new.items ≡ text.old.items ++ runs_line runs) }
 {
@@ -41,7 +41,7 @@ fn put_runs(text: &mut Vec<u8>, runs: u32) -> Result<(), AllocError>
     Ok(())
 }
 
-// A line of a word and the least and the greatest of some numbers.
+// Writes a line of a word and the smallest and the greatest of some numbers.
 fn put_bounds(text: &mut Vec<u8>, word: &[u8], bounds: Bounds) -> Result<(), AllocError>
     ensures { OnOk result (text.new.items ≡ text.old.items ++ bounds_line word.now bounds) }
 {
@@ -53,7 +53,7 @@ fn put_bounds(text: &mut Vec<u8>, word: &[u8], bounds: Bounds) -> Result<(), All
     Ok(())
 }
 
-// The texts of ends, one after the other.
+// Writes the texts of ends, one after the other.
 fn put_outcomes(text: &mut Vec<u8>, cowns: &[Cown], outcomes: &[Outcome]) -> Result<(), AllocError>
     requires { All (HasAllValues cowns.now) outcomes.now }
     ensures { OnOk result (text.new.items ≡ text.old.items ++ outcome_texts cowns.now outcomes.now) }
@@ -64,7 +64,7 @@ fn put_outcomes(text: &mut Vec<u8>, cowns: &[Cown], outcomes: &[Outcome]) -> Res
     Ok(())
 }
 
-// The text of an end: a line of its numbers, and those of its values.
+// Writes the text of an end: a line of its numbers, and those of its values.
 fn put_outcome(text: &mut Vec<u8>, cowns: &[Cown], outcome: &Outcome) -> Result<(), AllocError>
     requires { HasAllValues cowns.now outcome.now }
     ensures { OnOk result (text.new.items ≡ text.old.items ++ outcome_text cowns.now outcome.now) }

@@ -8,7 +8,7 @@ use boc_program::cown::Cown;
 use boc_text::{put_number, put_signed};
 use std::alloc::{AllocError, Global};
 
-/// The text of these values: a line for each cown, in the order of their numbers, and of an array one for each member. `AllocError` says that
+/// Returns the text of these values: a line for each cown, in the order of their numbers, and of an array one for each member. `AllocError` says that
 /// memory was refused.
 pub fn values_text(alloc: Global, cowns: &[Cown], values: &[i64]) -> Result<Vec<u8>, AllocError>
     requires { length values.now ≡ cown_count cowns.now }
@@ -19,7 +19,7 @@ pub fn values_text(alloc: Global, cowns: &[Cown], values: &[i64]) -> Result<Vec<
     Ok(text)
 }
 
-// Puts the text of these values behind another one.
+// Puts the text of these values after another one.
 pub(crate) fn put_cowns(
     text: &mut Vec<u8>,
     cowns: &[Cown],
@@ -51,7 +51,7 @@ fn put_cown(text: &mut Vec<u8>, cown: &Cown, values: &[i64]) -> Result<(), Alloc
     }
 }
 
-// What stands behind the name in a line.
+// Writes what comes after the name in a line.
 fn put_value(text: &mut Vec<u8>, value: i64) -> Result<(), AllocError>
     ensures { OnOk result (text.new.items ≡ text.old.items ++ value_line [] value) }
 {
@@ -61,7 +61,7 @@ fn put_value(text: &mut Vec<u8>, value: i64) -> Result<(), AllocError>
     Ok(())
 }
 
-// The lines of the members of an array from the given one on.
+// Writes the lines of the members of an array from the given one on.
 fn put_members(
     text: &mut Vec<u8>,
     name: &str,

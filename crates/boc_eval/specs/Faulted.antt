@@ -7,6 +7,7 @@ use Rattle.boc_program.specs.declared.program.Program.{Program}
 use Rattle.boc_runs.specs.Serial.{Behaviour, SerialRow, run_at_once, serial_along}
 use Rattle.boc_runs.specs.OwnOrder.{IsOwnOrder}
 use Rattle.boc_eval.specs.declared.serial.Faulted.{Faulted}
+use Rattle.boc_eval.specs.Instances.{behaviour_in}
 use Rattle.std.specs.Prelude.{Some}
 
 -- a row that ended by a fault: its number, its behaviour, the ticks that it took until then, and how it ended
@@ -47,7 +48,7 @@ pub record EndsAs (p : Program) (values : List ℤ) (faulted : List FaultedRow) 
 abbrev pub row_of : Faulted → FaultedRow
 row_of f = record {
   row = f.row;
-  behaviour = record { kind = f.kind; args = f.args.items; cowns = f.cowns.items };
+  behaviour = behaviour_in f.instance;
   ticks = f.ticks;
   status = f.status;
 }

@@ -4,7 +4,7 @@ ghost use Rattle.std.specs.Prelude.{◌≡◌, ◌++◌, OnOk};
 
 use std::alloc::AllocError;
 
-/// Puts items behind the others. One by one, since few are copied so in less time than a call to copy them takes.
+/// Puts items after the others. One by one, since few are copied so in less time than a call to copy them takes.
 #[inline(always)]
 pub fn push_each<T: Copy + Drop>(list: &mut Vec<T>, items: &[T]) -> Result<(), AllocError>
     ensures { OnOk result (list.new.items ≡ list.old.items ++ items.now) }

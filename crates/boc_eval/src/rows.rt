@@ -16,7 +16,7 @@ pub struct Extent {
     pub to: u32,
 }
 
-/// A behaviour, and where its arguments and its cowns stand among those of all behaviours.
+/// A behaviour, and where its arguments and its cowns are among those of all behaviours.
 #[derive(Clone, Copy)]
 pub struct Row {
     pub kind: usize,
@@ -24,7 +24,7 @@ pub struct Row {
     pub cowns: Extent,
 }
 
-// The part of a list.
+// Returns the part of a list.
 #[inline(always)]
 fn part<T>(items: &[T], extent: Extent) -> &[T]
     requires { IsWithin extent (length items.now) }
@@ -44,7 +44,7 @@ pub struct Rows {
 }
 
 impl Rows {
-    /// No rows.
+    /// Makes a list of no rows.
     pub fn new(alloc: Global) -> Rows
         ensures sound { IsConsistent result }
         ensures empty { result.rows.items ≡ [] }
@@ -56,14 +56,14 @@ impl Rows {
         }
     }
 
-    /// How many behaviours there are.
+    /// Returns how many behaviours there are.
     pub fn len(&self) -> usize
         ensures { result ≡ length self.now.rows.items }
     {
         self.rows.len()
     }
 
-    /// Adds a behaviour behind the others.
+    /// Adds a behaviour after the others.
     pub fn push(&mut self, kind: usize, args: &[i64], cowns: &[CownNo]) -> Result<(), AllocError>
         requires sound { IsConsistent self.old }
         requires few { length self.old.rows.items < MOST_ROWS }
@@ -91,7 +91,7 @@ impl Rows {
         Ok(())
     }
 
-    /// The kind of a behaviour.
+    /// Returns the kind of a behaviour.
     pub fn kind(&self, row: usize) -> usize
         requires { row < length self.now.rows.items }
         ensures { result ≡ (behaviour_at self.now row).kind }
@@ -99,7 +99,7 @@ impl Rows {
         self.rows[row].kind
     }
 
-    /// The arguments of a behaviour.
+    /// Returns the arguments of a behaviour.
     pub fn args(&self, row: usize) -> &[i64]
         requires sound { IsConsistent self.now }
         requires there { row < length self.now.rows.items }
@@ -108,7 +108,7 @@ impl Rows {
         part(&self.args, self.rows[row].args)
     }
 
-    /// The cowns of a behaviour.
+    /// Returns the cowns of a behaviour.
     pub fn cowns(&self, row: usize) -> &[CownNo]
         requires sound { IsConsistent self.now }
         requires there { row < length self.now.rows.items }

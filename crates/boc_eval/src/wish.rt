@@ -17,12 +17,12 @@ pub struct SpawnWish {
     pub kind: usize,
     /// The values of the behaviour's value parameters.
     pub args: Args,
-    /// The cowns of the behaviour's cown parameters, in their order. No cown stands here twice.
+    /// The cowns of the behaviour's cown parameters, in their order. No cown is here twice.
     pub cowns: Cowns,
 }
 
 impl SpawnWish {
-    /// A place for a wish.
+    /// Returns a place for a wish.
     pub(crate) fn blank() -> SpawnWish {
         SpawnWish {
             offset: 0,
@@ -43,7 +43,7 @@ impl SpawnWish {
         mem::swap(&mut self.cowns, &mut asked.cowns);
     }
 
-    /// The same wish once more. It takes no memory.
+    /// Returns the same wish once more. It takes no memory.
     pub(crate) fn duplicate(&self) -> SpawnWish
         ensures { wish_of result ≡ wish_of self.now }
     {

@@ -17,7 +17,7 @@ use Rattle.boc_follow.specs.Takes.{MayCome, Takes}
 use Rattle.boc_follow.specs.declared.follower.TakeFault.{TakeFault}
 use Rattle.boc_follow.specs.declared.follower.TakeFault.TheVariants.{NotAllowed}
 use Rattle.boc_follow.proofs.Besides.{may_start, run_more, whole}
-use Rattle.boc_follow.proofs.Wishing.{take_next}
+use Rattle.boc_eval.proofs.Taking.{take_next}
 
 happened : (p : Program) (c : Config) (log : List Event) (place : ℕ) (event : Event) → IsRunFrom p c log → slice_get log place ≡ Some event
     → MayHappen p (config_after_all p c (take place log)) event

@@ -7,12 +7,7 @@ use Rattle.boc_eval.specs.declared.wish.SpawnWish.{SpawnWish}
 use Rattle.boc_eval.specs.Frames.{UnderWay, wishes_of}
 use Rattle.boc_eval.specs.Stops.{WishComes}
 use Rattle.boc_eval.specs.Wishes.{wish_of}
-
--- one item more of a list
-pub take_next : {A : Type 0} (xs : List A) (n : ℕ) (x : A) → slice_get xs n ≡ Some x → take (suc n) xs ≡ take n xs ++ x ∷ []
-take_next [] n x e = absurd (let f : None ≡ Some x = e in cc)
-take_next (y ∷ xs) zero x e = (let f : Some y ≡ Some x = e in let g : y ≡ x = cc in ap (λ z. z ∷ []) g)
-take_next (y ∷ xs) (suc n) x e = ap (λ ys. y ∷ ys) (take_next xs n x e)
+use Rattle.boc_eval.proofs.Taking.{take_next}
 
 -- what is gathered so far: of a frame that has gone on from its start, the wishes that have come
 pub record Gathered (f g : UnderWay) (ws : List SpawnWish) : Type 0 where

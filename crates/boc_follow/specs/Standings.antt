@@ -11,6 +11,7 @@ use Rattle.boc_program.specs.Signatures.{signature_of, AllBelow, CountsAre}
 use Rattle.boc_runs.specs.Lives.{Life, Pending, Running, Ended}
 use Rattle.boc_runs.specs.Serial.{Behaviour, behaviour_of, main_behaviour, inputs_of, after_outputs}
 use Rattle.boc_runs.specs.Run.{Member, meaning_of}
+use Rattle.boc_eval.specs.Instances.{behaviour_in}
 use Rattle.boc_eval.specs.Wishes.{wish_of}
 use Rattle.boc_follow.specs.declared.effect.Effect.{Effect}
 use Rattle.boc_follow.specs.declared.row.FollowedRow.{FollowedRow}
@@ -41,7 +42,7 @@ underway_at e = underway_in e.value
 -- how a row stands that is kept so
 abbrev pub standing_in : FollowedRow → Standing
 standing_in row = record {
-  behaviour = record { kind = row.kind; args = row.args.items; cowns = row.cowns.items };
+  behaviour = behaviour_in row.instance;
   underway = option_map underway_at row.effect;
 }
 

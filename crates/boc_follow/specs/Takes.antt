@@ -1,10 +1,12 @@
 -- What a follower does with an event.
-use Rattle.std.specs.Prelude.{◌≡◌, ℕ, ℤ, List, ◌++◌, [], ◌∷◌, Result, Ok, Err, Some, slice_get}
+use Rattle.std.specs.Prelude.{◌≡◌, ℕ, List, ◌++◌, [], ◌∷◌, Result, Ok, Err, Some, None, slice_get}
 use Rattle.arrayvec.specs.ArrayVec.{ArrayVec}
 use Rattle.boc_runs.specs.declared.event.Event.{Event}
 use Rattle.boc_runs.specs.declared.event.Event.TheVariants.{Spawn, Start, End}
+use Rattle.boc_runs.specs.Serial.{Behaviour}
 use Rattle.boc_runs.specs.Run.{Member, config_of, MayHappen}
 use Rattle.boc_follow.specs.Following.{Following}
+use Rattle.boc_follow.specs.Standings.{Standing, Underway}
 use Rattle.boc_follow.specs.declared.follower.TakeFault.{TakeFault}
 use Rattle.boc_follow.specs.declared.follower.TakeFault.TheVariants.{NotAllowed, Memory}
 
@@ -30,8 +32,26 @@ pub record IsSpawn (event : Event) (parent offset : ℕ) (cowns : ArrayVec ℕ) 
   pub row : ℕ
   pub is : event ≡ Spawn row parent offset cowns
 
--- a row of a run is of this kind, and has these arguments, and these cowns in parameter order
-pub record IsNamed (members : List Member) (row kind : ℕ) (args : List ℤ) (cowns : List ℕ) : Type 0 where
+-- a row of a run is this behaviour
+pub record IsOfRow (members : List Member) (row : ℕ) (b : Behaviour) : Type 0 where
   pub member : Member
   pub is : slice_get members row ≡ Some member
-  pub behaviour_is : member.behaviour ≡ record { kind = kind; args = args; cowns = cowns }
+  pub behaviour_is : member.behaviour ≡ b
+
+-- the event is the end of this row as what is under way has it
+pub record IsEndBy (u : Underway) (row : ℕ) (event : Event) : Type 0 where
+  pub written : ArrayVec ℕ
+  pub written_is : written.items ≡ u.means.written
+  pub is : event ≡ End row u.means.ticks u.means.status written
+
+-- this row runs, and the event is its end
+pub record IsEndOf (rows : List Standing) (row : ℕ) (event : Event) : Type 0 where
+  pub standing : Standing
+  pub is : slice_get rows row ≡ Some standing
+  pub underway : Underway
+  pub runs : standing.underway ≡ Some underway
+  pub ends : IsEndBy underway row event
+
+-- this row is not there, or doesn't run
+abbrev pub IsIdle : List Standing → ℕ → Type 0
+IsIdle rows row = (s : Standing) → slice_get rows row ≡ Some s → s.underway ≡ None

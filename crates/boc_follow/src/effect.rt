@@ -5,6 +5,7 @@ ghost use Rattle.boc_program.specs.Meaning.{meaning};
 ghost use Rattle.boc_eval.specs.Frames.{wishes_of as all_wishes};
 ghost use Rattle.boc_eval.specs.Wishes.{wish_of};
 ghost use Rattle.boc_follow.specs.Standings.{underway_in};
+ghost use Rattle.boc_follow.specs.Takes.{IsEndBy};
 
 use arrayvec::ArrayVec;
 use boc_eval::{Frame, Spare, SpawnWish, Stop};
@@ -12,6 +13,7 @@ use boc_program::body::EndStatus;
 use boc_program::limits::MOST_HELD;
 use boc_program::short::{CownNo, Cowns, Input};
 use boc_registers::compiled::CompiledBody;
+use boc_runs::event::Event;
 use std::alloc::{AllocError, Global};
 
 /// The values of a body's cown parameters where it ends.
@@ -41,6 +43,18 @@ impl Effect {
         ensures { IsTrue result ↔ ((ticks ≡ self.now.ticks) × (status ≡ self.now.status) × (written.now ≡ self.now.written.items)) }
     {
         self.ticks == ticks && self.status == status && written == self.written.as_slice()
+    }
+
+    /// The end of this row, whose body it is.
+    pub fn end(&self, row: u32) -> Event
+        ensures { IsEndBy (underway_in self.now) row result }
+    {
+        Event::End {
+            row,
+            ticks: self.ticks,
+            status: self.status,
+            written: Cowns::try_from(self.written.as_slice()).unwrap(),
+        }
     }
 }
 

@@ -1,10 +1,11 @@
 // A run of a program, followed event by event.
 
-ghost use Rattle.std.specs.Prelude.{◌≡◌, ◌<◌, ◌≤◌, ◌↔◌, [], IfOk, IfSome, IsTrue, MatchOption, OnOk, length, vec_len, vec_capacity};
+ghost use Rattle.std.specs.Prelude.{◌≡◌, ◌<◌, ◌≤◌, ◌↔◌, [], IfOk, IsTrue, MatchOption, OnOk, length, map, option_map, vec_len, vec_capacity};
+ghost use Rattle.std.specs.Option.{option_copied};
 ghost use Rattle.boc_follow.specs.declared.follower.TakeFault.TheVariants.{Memory};
 
 use crate::row::{FollowedRow, child_of, end_row, put_child, start_row};
-use boc_eval::Spare;
+use boc_eval::{Instance, Spare, SpawnWish};
 use boc_program::body::EndStatus;
 use boc_program::program::Program;
 use boc_program::short::{CownNo, Cowns};
@@ -63,18 +64,7 @@ impl<'a> Model for Follower<'a> {
     ghost invariant = { λ f. IsFollowing f.program.now f.rules.cowns f.rules.events f.rows.items f.values.items };
 }
 
-/// What a row of a followed run is.
-#[derive(Clone, Copy, Debug)]
-pub struct Named<'f> {
-    /// The place of its body among the program's bodies.
-    pub kind: usize,
-    /// The values of its value parameters.
-    pub args: &'f [i64],
-    /// Its cowns in the order of its cown parameters.
-    pub cowns: &'f [CownNo],
-}
-
-// Makes room for one more row, if there is none.
+// Makes space for one more row, if there is none.
 fn make_room(rules: &mut Rules, rows: &mut Vec<FollowedRow>) -> Result<(), AllocError>
     ensures log { rules.new ≡ record rules.old { rooms = rules.new.rooms } }
     ensures rows { rows.new.items ≡ rows.old.items }
@@ -94,7 +84,10 @@ impl<'a> Follower<'a> {
     ghost use Rattle.boc_program.specs.Programs.{cown_count};
     ghost use Rattle.boc_runs.specs.Legal.{entries, IsAllowed};
     ghost use Rattle.boc_runs.specs.Run.{config_of, IsRun, IsWholeRun};
-    ghost use Rattle.boc_follow.specs.Takes.{Takes, IsSpawn, IsNamed};
+    ghost use Rattle.boc_eval.specs.Instances.{AreRowsOf, AreKnown, behaviour_in};
+    ghost use Rattle.boc_eval.specs.Wishes.{wish_of};
+    ghost use Rattle.boc_follow.specs.Standings.{standing_of, next_at};
+    ghost use Rattle.boc_follow.specs.Takes.{Takes, IsSpawn, IsOfRow, IsEndOf, IsIdle};
 
     /// A run of a program with no events yet.
     pub fn new(alloc: Global, program: &'a CompiledProgram<'a>) -> Result<Follower<'a>, AllocError>
@@ -241,18 +234,50 @@ impl<'a> Follower<'a> {
         self.rows.len()
     }
 
-    /// What a row is, if it is there.
-    pub fn named(&self, row: u32) -> Option<Named<'_>>
-        ensures named { MatchOption result
+    /// Returns what a row is, if it is there.
+    pub fn instance(&self, row: u32) -> Option<&Instance>
+        ensures { MatchOption result
             (length (config_of self.now.program self.now.log).members ≤ row)
-            (λ named. IsNamed (config_of self.now.program self.now.log).members row named.kind named.args.now named.cowns.now) }
-        ensures known { IfSome result (λ named. named.kind < length self.now.program.bodies) }
+            (λ instance. IsOfRow (config_of self.now.program self.now.log).members row (behaviour_in instance.now)) }
     {
         let row = self.rows.get(row as usize)?;
-        Some(Named {
-            kind: row.kind,
-            args: row.args.as_slice(),
-            cowns: row.cowns.as_slice(),
-        })
+        Some(&row.instance)
     }
+
+    /// Returns what each row is, in the order of their numbers. `AllocError` says that memory was refused.
+    pub fn instances(&self, alloc: Global) -> Result<Vec<Instance>, AllocError>
+        ensures rows { IfOk result (λ rows. AreRowsOf (config_of self.now.program self.now.log).members rows.items) }
+        ensures known { IfOk result (λ rows. AreKnown self.now.program rows.items) }
+    {
+        copies_of(alloc, &self.rows)
+    }
+
+    /// Returns the behaviour that a row spawns next, while it runs and has one left to spawn.
+    pub fn next_wish(&self, row: u32) -> Option<&SpawnWish>
+        ensures { option_map wish_of (option_copied result)
+            ≡ next_at (map (standing_of self.now.program) (config_of self.now.program self.now.log).members) row }
+    {
+        self.rows.get(row as usize)?.next_wish()
+    }
+
+    /// Returns the end of a row by what its body does, while it runs.
+    pub fn end_of(&self, row: u32) -> Option<Event>
+        ensures { MatchOption result
+            (IsIdle (map (standing_of self.now.program) (config_of self.now.program self.now.log).members) row)
+            (IsEndOf (map (standing_of self.now.program) (config_of self.now.program self.now.log).members) row) }
+    {
+        let effect = self.rows.get(row as usize)?.effect.as_ref()?;
+        Some(effect.end(row))
+    }
+}
+
+// Returns what rows are.
+fn copies_of(alloc: Global, rows: &[FollowedRow]) -> Result<Vec<Instance>, AllocError>
+    ensures { IfOk result (λ copies. copies.items ≡ map (λ row. row.instance) rows.now) }
+{
+    let mut copies = Vec::with_capacity(alloc, rows.len())?;
+    for row in 0..rows.len() {
+        copies.push(rows[row].instance.duplicate())?;
+    }
+    Ok(copies)
 }

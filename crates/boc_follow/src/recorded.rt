@@ -16,7 +16,7 @@ use std::alloc::{AllocError, Global};
 // Progress is reported once in this many events.
 const STRETCH: usize = 64;
 
-// How a record strays that has this event, which the program doesn't allow next. It is no start: those a program allows wherever the rule of records does.
+// How a record diverges that has this event, which the program doesn't allow next. It is no start: those a program allows wherever the rule of records does.
 fn kind_of(event: &Event) -> StrayFaultKind
     requires { (row : ℕ) → event.now ≢ Start row }
     ensures { IsToldAs result event.now }
@@ -59,7 +59,7 @@ fn follow_all(
     Ok(())
 }
 
-/// The run of a program that a record is of, followed to its end, or the first line of the record's text that strays from the program.
+/// The run of a program that a record is of, followed to its end, or the first line of the record's text that diverges from the program.
 ///
 /// What is handed out has taken all events of the record, so its `values` are those that the run ends with, and it knows what each row is. Memory is refused
 /// with line 0, which says nothing of the record. `progress` receives at every 64th event how many are taken.

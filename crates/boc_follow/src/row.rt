@@ -11,10 +11,10 @@ ghost use Rattle.boc_follow.specs.Standings.{Standing, standing_in, fresh, next_
 ghost use Rattle.boc_follow.specs.Standings.{over_in, written_by, written_at, EndsSo, NoChild, IsChild, CanStart, CanWrite};
 
 use crate::effect::{Effect, effect_of};
-use boc_eval::{Spare, SpawnWish};
+use boc_eval::{Instance, Spare, SpawnWish};
 use boc_program::body::EndStatus;
 use boc_program::cowns::rising_cowns;
-use boc_program::short::{Args, CownNo, Cowns};
+use boc_program::short::CownNo;
 use boc_registers::compiled::CompiledProgram;
 use boc_runs::values::{inputs_of, write_outputs};
 use std::alloc::{AllocError, Global};
@@ -22,12 +22,8 @@ use std::alloc::{AllocError, Global};
 /// What is kept of a row.
 #[derive(Drop, Debug)]
 pub struct FollowedRow {
-    /// The place of its body among the program's bodies.
-    pub kind: usize,
-    /// The values of its value parameters.
-    pub args: Args,
-    /// Its cowns in the order of its cown parameters.
-    pub cowns: Cowns,
+    /// What it is.
+    pub instance: Instance,
     /// While it runs, what its body does.
     pub effect: Option<Box<Effect>>,
 }
@@ -38,9 +34,7 @@ impl FollowedRow {
         ensures { standing_in result ≡ fresh main_behaviour }
     {
         FollowedRow {
-            kind: 0,
-            args: Args::new(),
-            cowns: Cowns::new(),
+            instance: Instance::main(),
             effect: None,
         }
     }
@@ -50,9 +44,7 @@ impl FollowedRow {
         ensures { standing_in result ≡ fresh (behaviour_of (wish_of wish.now)) }
     {
         FollowedRow {
-            kind: wish.kind,
-            args: Args::try_from(wish.args.as_slice()).unwrap(),
-            cowns: Cowns::try_from(wish.cowns.as_slice()).unwrap(),
+            instance: Instance::of(wish),
             effect: None,
         }
     }
@@ -87,9 +79,10 @@ impl FollowedRow {
         ensures ok { OnOk result (standing_in self.new ≡ started_in program.now values.now (standing_in self.old)) }
         ensures err { OnErr result (standing_in self.new ≡ standing_in self.old) }
     {
-        let body = program.body(self.kind);
-        let inputs = inputs_of(&self.cowns, values);
-        let effect = effect_of(alloc, spare, body, &self.args, &inputs)?;
+        let instance = &self.instance;
+        let body = program.body(instance.kind);
+        let inputs = inputs_of(&instance.cowns, values);
+        let effect = effect_of(alloc, spare, body, &instance.args, &inputs)?;
         self.effect = Some(Box::new(alloc, effect)?);
         Ok(())
     }
@@ -111,7 +104,7 @@ impl FollowedRow {
         ensures values { values.new ≡ written_by (standing_in self.old) values.old }
     {
         if let Some(effect) = self.effect.take() {
-            write_outputs(values, &self.cowns, &effect.outputs);
+            write_outputs(values, &self.instance.cowns, &effect.outputs);
         }
     }
 }
@@ -156,7 +149,7 @@ fn count_spawn_of(rows: &mut [FollowedRow], parent: u32)
     }
 }
 
-/// Puts a row behind the others, for which there is room. It is the next wish of its parent, if that is there.
+/// Puts a row after the others, for which there is room. It is the next wish of its parent, if that is there.
 pub fn put_child(rows: &mut Vec<FollowedRow>, parent: u32, child: FollowedRow)
     requires next { (s : Standing) → slice_get (map standing_in rows.old.items) parent ≡ Some s → IsSome (next_of s) }
     requires room { vec_len rows.old < vec_capacity rows.old }

@@ -7,10 +7,10 @@ ghost use Rattle.boc_follow.specs.declared.stray.StrayFaultKind.TheVariants.{Mem
 use std::alloc::AllocError;
 use thiserror::Error;
 
-/// How a record strays from a program. The numbers 15 to 18 stand for these in this order: they follow those of what can be wrong with a record's text.
+/// How a record diverges from a program. The numbers 15 to 18 stand for these in this order: they follow those of what can be wrong with a record's text.
 #[derive(Clone, Copy, PartialEq, Eq, Debug)]
 pub enum StrayFaultKind {
-    /// The record is over another number of cowns than the program has.
+    /// The record is of another number of cowns than the program has.
     OtherCowns,
     /// The spawned row isn't what its parent's body spawns next: it has another offset or other cowns, or nothing is left to spawn.
     NotNextSpawn,
@@ -20,8 +20,8 @@ pub enum StrayFaultKind {
     Memory,
 }
 
-/// Why a record is not that of a run of a program: the first line of its text that strays from the program, counted from 1, and how it does. The first line
-/// tells the cowns, and each event has a line behind it. Where memory was refused the line is 0.
+/// Why a record is not that of a run of a program: the first line of its text that diverges from the program, counted from 1, and how it does. The first line
+/// reports the cowns, and each event has a line after it. Where memory was refused the line is 0.
 #[derive(Clone, Copy, PartialEq, Eq, Debug, Error)]
 #[error("line {line}: {}", kind_text(*.kind))]
 pub struct StrayFault {
@@ -42,7 +42,7 @@ fn kind_text(kind: StrayFaultKind) -> &'static str
 }
 
 impl StrayFault {
-    /// The number and the name of how the record strays, as they are displayed.
+    /// The number and the name of how the record diverges, as they are displayed.
     pub fn kind_text(&self) -> &'static str
         ensures { result.now ≡ kind_line self.now.kind }
     {

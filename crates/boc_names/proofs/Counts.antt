@@ -1,4 +1,4 @@
--- Lists with one item more behind them, and how many declarations a program has.
+-- Lists with one item more after them, and how many declarations a program has.
 use Rattle.std.proofs.Common.{◌≡◌, ◌∙◌, ℕ, zero, suc, ◌+◌, ◌<◌, ◌≤◌, ◌^◌, List, [], ◌∷◌, ◌++◌, Some, length, map, take, ap, sym, arith, rules}
 use Rattle.std.specs.Prelude.{slice_get, IsTrue, nat_lt}
 use Rattle.std.proofs.lemmas.List.{map-append}
@@ -6,7 +6,7 @@ use Rattle.boc_program.specs.declared.cown.Cown.{Cown}
 use Rattle.boc_program.specs.declared.program.Program.{Program}
 use Rattle.boc_program.specs.Programs.{cown_count, have_members, members}
 use Rattle.boc_program.proofs.Truth.{and_true}
-use Rattle.boc_follow.proofs.Wishing.{take_next}
+use Rattle.boc_eval.proofs.Taking.{take_next}
 use Rattle.boc_names.specs.Names.{Text, member_name, member_names, member_places, numbered, numbered_from, numbers_from}
 
 one_more : (n : ℕ) → suc n ≡ n + 1

@@ -19,7 +19,7 @@ use Rattle.boc_names.proofs.Counts.{map_next}
 use Rattle.boc_names.specs.Grouping.{CountUp, AreDistinct, IsGrouping}
 use Rattle.boc_names.specs.Laying.{number_seen, IsNew, IsNameAt, KnowsNames, TakesName}
 
--- ---- names with one more behind them
+-- ---- names with one more after them
 
 text_at_left : (names : List Text) (more : List Text) (i : ℕ) → i < length names → text_at (names ++ more) i ≡ text_at names i
 text_at_left names more i less =

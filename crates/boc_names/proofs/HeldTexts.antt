@@ -1,13 +1,13 @@
--- The cowns of a behaviour, put behind a text stretch by stretch.
+-- The cowns of a behaviour, put after a text stretch by stretch.
 use Rattle.std.proofs.Common.{◌≡◌, ◌∙◌, ℕ, ◌<◌, List, [], ◌∷◌, ◌++◌, length, map, flat_map, take, drop, codes, ap, append_assoc, sym, arith}
 use Rattle.boc_names.specs.Names.{Text, NamedCowns, goes_on, held_text, separated, stretch_text}
 use Rattle.boc_names.specs.Stretches.{stretches}
 
--- stretches behind others
+-- stretches after others
 abbrev pub behind : NamedCowns → List ℕ → Text
 behind cowns held = flat_map (λ told. codes ", " ++ told) (map (stretch_text cowns) (stretches (goes_on cowns) held))
 
--- the first stretch, and those behind it
+-- the first stretch, and those after it
 held_from : (cowns : NamedCowns) (held : List ℕ) (n : ℕ) → 0 < length held
     → stretches (goes_on cowns) held ≡ take n held ∷ stretches (goes_on cowns) (drop n held)
     → codes " " ++ (stretch_text cowns (take n held) ++ behind cowns (drop n held)) ≡ held_text cowns held

@@ -51,7 +51,7 @@ pub one_next : (text word rest other others : Text) → IsNext text word rest �
 one_next text word rest other others f g =
     one_split word other rest others (in_word word f.is_word.1) (in_word other g.is_word.1) f.apart g.apart (ap (drop 1) (sym f.is ∙ g.is))
 
--- a text in front of which no blank stands begins with no word
+-- a text before which no blank stands begins with no word
 pub no_blank : (text after : Text) (first : ℕ) → text ≡ first ∷ after → first ≢ 32 → (word rest : Text) → IsNext text word rest → ⊥
 no_blank text after first is other word rest next = other (ap (λ xs. get_or xs 0 0) (sym is ∙ next.is))
 
@@ -192,7 +192,7 @@ puts_more text word rest old new next puts = (
       ∙ append_assoc old (codes ", " ++ word) (more_words puts.0),
 )
 
--- the others were put behind the first, or are refused
+-- the others were appended to the first, or are refused
 pub put_others : {D : Type 0} (r : Result D NamesFaultKind) (text word rest old mid new : Text) → IsNext text word rest → mid ≡ old ++ codes ", " ++ word
     → MatchResult r (λ done. PutsWords rest mid new) (IsOfWords rest) → MatchResult r (λ done. PutsWords text old new) (IsOfWords text)
 put_others (Ok done) text word rest old mid new next is puts =
@@ -249,14 +249,14 @@ pub no_more : (text : Text) (n : ℕ) (a rest : Text) → IsNumbered text n a re
 no_more text n a rest numbered some = λ cown name form is.
     omega (arith, some, ap length (one_numbered text n cown a name rest [] numbered (cown_numbered text cown name form is)).2)
 
--- what stands behind the name is nothing
+-- what comes after the name is nothing
 pub cown_is : (text : Text) (n : ℕ) (name rest : Text) → IsNumbered text n name rest → length rest ≡ 0 → text ≡ spaced (decimal n ∷ name ∷ [])
 cown_is text n name [] numbered none = numbered.is
 cown_is text n name (b ∷ rest) numbered none = absurd (omega (arith, none))
 
 -- ---- families
 
--- where no bracket stands behind the first byte, nothing stands in front of an index
+-- where no bracket comes after the first byte, nothing comes before an index
 pub base_none : (name others : Text) (first : ℕ) → name ≡ first ∷ others → position (λ b. b == 91) others ≡ None → None ≡ base_len name
 base_none name others first is none =
     sym (ap base_len is ∙ ap (λ (o : Option ℕ). cond (ends_with (λ a b. a == b) others (codes "]")) (option_map suc o) None) none

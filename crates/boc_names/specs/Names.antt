@@ -8,6 +8,7 @@ use Rattle.boc_program.specs.declared.cown.Cown.{Cown}
 use Rattle.boc_program.specs.declared.program.Program.{Program}
 use Rattle.boc_program.specs.Sizes.{members}
 use Rattle.boc_runs.specs.Run.{Member}
+use Rattle.boc_eval.specs.declared.instance.Instance.{Instance}
 use Rattle.boc_names.specs.declared.held.Place.{Place}
 use Rattle.boc_names.specs.declared.names.Names.{Names}
 use Rattle.boc_names.specs.Stretches.{stretches}
@@ -24,7 +25,7 @@ texts_of texts = map (λ text. text.items) texts
 abbrev pub text_at : List Text → ℕ → Text
 text_at texts place = unwrap_or (slice_get texts place) []
 
--- a word and a number behind it
+-- a word and a number after it
 abbrev pub numbered : Text → ℕ → Text
 numbered word number = word ++ decimal number
 
@@ -85,7 +86,7 @@ named_cowns cowns = record { names = cown_names cowns; places = places_from 0 co
 
 -- ---- behaviours
 
--- arguments behind others
+-- arguments after others
 abbrev pub more_args : List ℤ → Text
 more_args [] = []
 more_args (a ∷ args) = codes ", " ++ signed_decimal a ++ more_args args
@@ -141,6 +142,10 @@ behaviour_text defs cowns (suc kind) args held = call_text (text_at defs (suc ki
 -- the behaviour that a row of a run is
 abbrev pub member_text : List Text → NamedCowns → Member → Text
 member_text defs cowns m = behaviour_text defs cowns m.behaviour.kind m.behaviour.args m.behaviour.cowns
+
+-- the same of a row as it is kept
+abbrev pub instance_text : List Text → NamedCowns → Instance → Text
+instance_text defs cowns i = behaviour_text defs cowns i.kind i.args.items i.cowns.items
 
 -- ---- the names of a run
 

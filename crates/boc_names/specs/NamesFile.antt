@@ -26,7 +26,7 @@ pub data Line : Type 0 where
 abbrev pub IsWord : Text → Type 0
 IsWord word = (0 < length word) × IsTrue (list_all is_ascii_graphic word)
 
--- words, each behind a blank
+-- words, each after a blank
 abbrev pub spaced : List Text → Text
 spaced [] = []
 spaced (word ∷ words) = codes " " ++ word ++ spaced words
@@ -56,7 +56,7 @@ IsOneLine line = All (λ b. b ≢ 10) line
 abbrev pub fed : Text → Text
 fed line = line ++ codes "\n"
 
--- a line that may stand in a file
+-- a line that may be in a file
 pub record IsLine (line : Line) : Type 0 where
   pub form : HasForm line
   pub one : IsOneLine (spelling line)
@@ -68,7 +68,7 @@ lines_text lines = flat_map (λ line. fed (spelling line)) lines
 
 -- ---- what things are called
 
--- words behind others
+-- words after others
 abbrev pub more_words : List Text → Text
 more_words [] = []
 more_words (word ∷ words) = codes ", " ++ word ++ more_words words
@@ -126,7 +126,7 @@ abbrev pub AreApart : List Call → Type 0
 AreApart [] = Unit {0}
 AreApart (call ∷ calls) = (call_at calls call.number ≡ None) × AreApart calls
 
--- these lines may stand in a file, of which each names one of so many rows or cowns, and no two the same
+-- these lines may be in a file, of which each names one of so many rows or cowns, and no two the same
 pub record AreGood (rows cowns : ℕ) (lines : List Line) : Type 0 where
   pub lines_are : AllByRecursion IsLine lines
   pub rows_there : AreThere rows (row_calls lines)
@@ -161,7 +161,7 @@ pub record AreWhole (count : ℕ) (texts : List (Vec ℕ Global)) (numbers : Lis
   pub numbers_are : length numbers ≡ count
   pub below : All (λ number. number < count) numbers
 
--- a text is that of lines that may stand in a file, and not too long, and the names are those of the base with what the lines say laid over them
+-- a text is that of lines that may be in a file, and not too long, and the names are those of the base with what the lines say laid over them
 pub record IsNamedBy (text : Text) (base names : Names) : Type 0 where
   pub lines : List Line
   pub good : AreGood (length base.rows.items) (length base.cowns.items) lines
@@ -171,7 +171,7 @@ pub record IsNamedBy (text : Text) (base names : Names) : Type 0 where
 
 -- ---- faults
 
--- a text begins with this line, which is not too long, and this is behind it
+-- a text begins with this line, which is not too long, and this is after it
 pub record BeginsWith (text line rest : Text) : Type 0 where
   pub is : text ≡ fed line ++ rest
   pub one : IsOneLine line
@@ -230,7 +230,7 @@ NextIs rows cowns lines text kinds.NoCown = (line : Line) × StandsFirst text li
 NextIs rows cowns lines text kinds.Twice = (line : Line) × StandsFirst text line × IsAgain lines line
 NextIs rows cowns lines text kinds.Memory = ⊥
 
--- the text begins with lines that may stand in a file, and the line behind them, which has this number, has this wrong
+-- the text begins with lines that may be in a file, and the line after them, which has this number, has this wrong
 pub record IsWrongAt (text : Text) (rows cowns number : ℕ) (kind : NamesFaultKind) : Type 0 where
   pub lines : List Line
   pub good : AreGood rows cowns lines

@@ -20,7 +20,7 @@ kind_line kinds.NoCown = codes "5 NoCown"
 kind_line kinds.Twice = codes "6 Twice"
 kind_line kinds.Memory = codes "7 Memory"
 
--- the first line of a text, and what is behind its line feed
+-- the first line of a text, and what is after its line feed
 abbrev pub Splits : Text → Text → Text → Type 0
 Splits text line rest = BeginsWith text line rest × (length rest < length text)
 
@@ -35,32 +35,32 @@ abbrev pub IsApart : Text → Type 0
 IsApart [] = Unit {0}
 IsApart (first ∷ others) = first ≡ 32
 
--- so many bytes stand in front of the first blank
+-- so many bytes come before the first blank
 pub record BreaksAt (text : Text) (len : ℕ) : Type 0 where
   pub within : len ≤ length text
   pub unbroken : (k : ℕ) → k < len → slice_index text k ≢ 32
   pub apart : IsApart (drop len text)
 
--- a word stands at the front of a text, behind a blank, and this is behind the word
+-- a word stands at the front of a text, after a blank, and this is after the word
 pub record IsNext (text word rest : Text) : Type 0 where
   pub is_word : IsWord word
   pub is : text ≡ codes " " ++ word ++ rest
   pub apart : IsApart rest
 
--- a number and a name stand at the front of a text, and this is behind them
+-- a number and a name stand at the front of a text, and this is after them
 pub record IsNumbered (text : Text) (number : ℕ) (name rest : Text) : Type 0 where
   pub small : number < 2 ^ 32
   pub is_word : IsWord name
   pub is : text ≡ codes " " ++ decimal number ++ (codes " " ++ name ++ rest)
   pub apart : IsApart rest
 
--- a text is none of words, each behind a blank, or memory was refused
+-- a text is none of words, each after a blank, or memory was refused
 abbrev pub IsOfWords : Text → NamesFaultKind → Type 0
 IsOfWords text kinds.Form = (words : List Text) → AllByRecursion IsWord words → text ≡ spaced words → ⊥
 IsOfWords text kinds.Memory = Unit {0}
 IsOfWords text _ = ⊥
 
--- the words of a text were put behind others
+-- the words of a text were appended to others
 abbrev pub PutsWords : Text → Text → Text → Type 0
 PutsWords text old new = (words : List Text) × AllByRecursion IsWord words × (text ≡ spaced words) × (new ≡ old ++ more_words words)
 

@@ -5,11 +5,11 @@ ghost use Rattle.boc_names.specs.Names.{args_text, behaviour_text, more_args, te
 
 use crate::held::CownNames;
 use crate::texts::text_at;
-use boc_program::short::CownNo;
+use boc_eval::Instance;
 use boc_text::put_signed;
 use std::alloc::{AllocError, Global};
 
-// Puts arguments behind others.
+// Appends arguments to others.
 fn put_more_args(text: &mut Vec<u8>, args: &[i64]) -> Result<(), AllocError>
     ensures { OnOk result (text.new.items ≡ text.old.items ++ more_args args.now) }
 {
@@ -23,7 +23,7 @@ fn put_more_args(text: &mut Vec<u8>, args: &[i64]) -> Result<(), AllocError>
     }
 }
 
-// Puts the arguments of a behaviour behind a text.
+// Appends the arguments of a behaviour to a text.
 fn put_args(text: &mut Vec<u8>, args: &[i64]) -> Result<(), AllocError>
     ensures { OnOk result (text.new.items ≡ text.old.items ++ args_text args.now) }
 {
@@ -36,28 +36,27 @@ fn put_args(text: &mut Vec<u8>, args: &[i64]) -> Result<(), AllocError>
     }
 }
 
-/// What a behaviour is called: main, or the def's name, the arguments, and the cowns in the order of the parameters; main is the first of the defs.
+/// Returns what a behaviour is called: main, or the def's name, the arguments, and the cowns in the order of the parameters; main is the first of the defs.
 /// `AllocError` says that memory was refused.
 pub fn behaviour_text(
     alloc: Global,
     defs: &[Vec<u8>],
     cowns: &CownNames,
-    kind: usize,
-    args: &[i64],
-    held: &[CownNo],
+    instance: &Instance,
 ) -> Result<Vec<u8>, AllocError>
-    ensures { IfOk result (λ text. text.items ≡ behaviour_text (texts_of defs.now) cowns.now kind args.now held.now) }
+    ensures { IfOk result (λ text. text.items
+        ≡ behaviour_text (texts_of defs.now) cowns.now instance.now.kind instance.now.args.items instance.now.cowns.items) }
 {
     let mut text = Vec::new(alloc);
-    if kind == 0 {
+    if instance.kind == 0 {
         text.extend_from_slice(b"main")?;
         return Ok(text);
     }
-    text.extend_from_slice(text_at(defs, kind))?;
+    text.extend_from_slice(text_at(defs, instance.kind))?;
     text.push(b'(')?;
-    put_args(&mut text, args)?;
+    put_args(&mut text, &instance.args)?;
     text.push(b';')?;
-    cowns.put_held(&mut text, held)?;
+    cowns.put_held(&mut text, &instance.cowns)?;
     text.push(b')')?;
     Ok(text)
 }

@@ -31,7 +31,7 @@ pub(crate) enum Said {
     OfCown(u32, Called),
 }
 
-/// The first line of a text, and what is behind its line feed.
+/// Returns the first line of a text, and what is after its line feed.
 pub(crate) fn split_line(text: &[u8]) -> Result<(&[u8], &[u8]), NamesFaultKind>
     requires { 0 < length text.now }
     ensures { MatchResult result (λ parts. Splits text.now parts.0.now parts.1.now) (IsOfSplit text.now) }
@@ -44,7 +44,7 @@ pub(crate) fn split_line(text: &[u8]) -> Result<(&[u8], &[u8]), NamesFaultKind>
     }
 }
 
-// How many bytes stand in front of the first blank.
+// Returns how many bytes come before the first blank.
 fn unbroken(text: &[u8]) -> usize
     ensures { BreaksAt text.now result }
 {
@@ -54,14 +54,14 @@ fn unbroken(text: &[u8]) -> usize
     }
 }
 
-// Whether all bytes are printed, and none is a blank.
+// Returns whether all bytes are printed, and none is a blank.
 fn is_printed(text: &[u8]) -> bool
     ensures { result ≡ list_all is_ascii_graphic text.now }
 {
     text.iter().all(|byte| byte.is_ascii_graphic())
 }
 
-// The word at the front of a text, behind a blank, and what is behind the word.
+// Returns the word at the front of a text, after a blank, and what is after the word.
 fn next_word(text: &[u8]) -> Option<(&[u8], &[u8])>
     ensures { MatchOption result ((word rest : List ℕ) → IsNext text.now word rest → ⊥) (λ parts. IsNext text.now parts.0.now parts.1.now) }
 {
@@ -76,7 +76,7 @@ fn next_word(text: &[u8]) -> Option<(&[u8], &[u8])>
     Some((word, rest))
 }
 
-// The number and the name at the front of a text, and what is behind them.
+// Returns the number and the name at the front of a text, and what is after them.
 fn numbered_name(text: &[u8]) -> Option<(u32, &[u8], &[u8])>
     ensures { MatchOption result ((number : ℕ) (name rest : List ℕ) → IsNumbered text.now number name rest → ⊥)
         (λ parts. IsNumbered text.now parts.0 parts.1.now parts.2.now) }
@@ -87,7 +87,7 @@ fn numbered_name(text: &[u8]) -> Option<(u32, &[u8], &[u8])>
     Some((number, name, rest))
 }
 
-// Puts words behind others, each of which stands behind a blank.
+// Appends words to others, each after a blank.
 fn put_words(text: &mut Vec<u8>, words: &[u8]) -> Result<(), NamesFaultKind>
     ensures { MatchResult result (λ done. PutsWords words.now text.old.items text.new.items) (IsOfWords words.now) }
 {
@@ -102,7 +102,7 @@ fn put_words(text: &mut Vec<u8>, words: &[u8]) -> Result<(), NamesFaultKind>
     put_words(text, others)
 }
 
-// What a row is called that has this name and arguments, each of which stands behind a blank.
+// Returns what a row is called that has this name and arguments, each of which comes after a blank.
 fn row_called(alloc: Global, name: &[u8], args: &[u8]) -> Result<Vec<u8>, NamesFaultKind>
     ensures { MatchResult result (λ text. SaysWords name.now args.now text.items) (IsOfWords args.now) }
 {
@@ -120,7 +120,7 @@ fn row_called(alloc: Global, name: &[u8], args: &[u8]) -> Result<Vec<u8>, NamesF
     Ok(text)
 }
 
-// What a line says of a row, behind its `=`.
+// Returns what a line says of a row, after its `=`.
 fn said_of_row(alloc: Global, text: &[u8]) -> Result<(u32, Called), NamesFaultKind>
     ensures { MatchResult result (λ said. SaysRow text.now said.0 said.1) (IsOfRow text.now) }
 {
@@ -132,14 +132,14 @@ fn said_of_row(alloc: Global, text: &[u8]) -> Result<(u32, Called), NamesFaultKi
     Ok((row, Called { text, group }))
 }
 
-// Where the first `[` of a text stands.
+// Returns where the first `[` of a text is.
 fn bracket_of(text: &[u8]) -> Option<usize>
     ensures { result ≡ position (λ b. b == 91) text.now }
 {
     text.iter().position(|byte| *byte == b'[')
 }
 
-// How many bytes of the name of an array's member stand in front of its index.
+// Returns how many bytes of the name of an array's member come before its index.
 fn base_len(name: &[u8]) -> Option<usize>
     ensures { result ≡ base_len name.now }
 {
@@ -151,7 +151,7 @@ fn base_len(name: &[u8]) -> Option<usize>
     Some(len + 1)
 }
 
-// The name of the family of a cown with this name.
+// Returns the name of the family of a cown with this name.
 fn family_text(alloc: Global, name: &[u8]) -> Result<Vec<u8>, AllocError>
     ensures { IfOk result (λ text. text.items ≡ family_text name.now) }
 {
@@ -165,7 +165,7 @@ fn family_text(alloc: Global, name: &[u8]) -> Result<Vec<u8>, AllocError>
     }
 }
 
-// What a line says of a cown, behind its `@`.
+// Returns what a line says of a cown, after its `@`.
 fn said_of_cown(alloc: Global, text: &[u8]) -> Result<(u32, Called), NamesFaultKind>
     ensures { MatchResult result (λ said. SaysCown text.now said.0 said.1) (IsOfCown text.now) }
 {
@@ -180,7 +180,7 @@ fn said_of_cown(alloc: Global, text: &[u8]) -> Result<(u32, Called), NamesFaultK
     Ok((cown, Called { text, group }))
 }
 
-/// What a line says.
+/// Returns what a line says.
 pub(crate) fn said_of(alloc: Global, line: &[u8]) -> Result<Said, NamesFaultKind>
     ensures { MatchResult result (SaysLine line.now) (IsOfLine line.now) }
 {

@@ -9,7 +9,7 @@ use thiserror::Error;
 /// What is wrong with a line of a file of names. The numbers 1 to 7 stand for these in this order.
 #[derive(Clone, Copy, PartialEq, Eq, Debug)]
 pub enum NamesFaultKind {
-    /// The text ends within the line: there is no line feed behind it.
+    /// The text ends within the line: there is no line feed after it.
     Cut,
     /// The line is longer than 80 bytes, or the text is longer than it may be with this line.
     TooLong,
@@ -26,7 +26,7 @@ pub enum NamesFaultKind {
 }
 
 impl NamesFaultKind {
-    /// The number and the name of a kind, as they are displayed.
+    /// Returns the number and the name of a kind, as they are displayed.
     pub fn text(self) -> &'static str
         ensures { result.now ≡ kind_line self }
     {
@@ -63,7 +63,7 @@ impl<T: Drop> From<AllocFailed<T>> for NamesFaultKind {
 }
 
 /// Why a text was refused as a file of names: its first faulty line, counted from 1, and what is wrong with it. Where memory was refused the line
-/// tells nothing.
+/// says nothing.
 #[derive(Clone, Copy, PartialEq, Eq, Debug, Error)]
 #[error("line {line}: {}", .kind.text())]
 pub struct NamesFault {

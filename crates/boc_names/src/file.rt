@@ -22,7 +22,7 @@ struct Things {
     cowns: Vec<Thing>,
 }
 
-// The rows and the cowns that these are the names of.
+// Returns the rows and the cowns that these are the names of.
 fn things_of(alloc: Global, base: Names) -> Result<Things, AllocError>
     requires rows { length base.defs.items ≡ length base.rows.items }
     requires cowns { length base.families.items ≡ length base.cowns.items }
@@ -44,7 +44,7 @@ fn lay(things: &mut Things, said: Said) -> Result<(), NamesFaultKind>
     }
 }
 
-// Takes the line at the front of a text, and gives what is behind it.
+// Takes the line at the front of a text, and returns what is after it.
 fn take_line<'a>(
     alloc: Global,
     things: &mut Things,
@@ -82,7 +82,7 @@ fn take_lines(alloc: Global, things: &mut Things, text: &[u8]) -> Result<(), Nam
     Ok(())
 }
 
-// What rows and cowns are called, and their defs and families.
+// Returns what rows and cowns are called, and their defs and families.
 fn names_of(alloc: Global, things: Things) -> Result<Names, AllocError>
     requires rows { length things.rows.items < 2 ^ 32 }
     requires cowns { length things.cowns.items < 2 ^ 32 }
@@ -102,11 +102,11 @@ fn names_of(alloc: Global, things: Things) -> Result<Names, AllocError>
     })
 }
 
-/// The names that the text of a file gives to rows and cowns, and those of `base` for what it doesn't name.
+/// Returns the names that the text of a file gives to rows and cowns, and those of `base` for what it doesn't name.
 ///
-/// Each line ends in a line feed and has at most 80 bytes in front of it. `= ROW NAME [ARG ..]` calls a row `NAME`, or `NAME(ARG, ARG)`, and its def
+/// Each line ends in a line feed and has at most 80 bytes before it. `= ROW NAME [ARG ..]` calls a row `NAME`, or `NAME(ARG, ARG)`, and its def
 /// `NAME`. `@ COWN NAME` calls a cown `NAME`, and its family too, but a name `BASE[..]` is of the family `BASE[*]`. A line that is empty or begins
-/// with `#` says nothing. A single blank stands between words, which are printable ASCII, and numbers are decimal.
+/// with `#` says nothing. A single blank separates words, which are printable ASCII, and numbers are decimal.
 ///
 /// A text with another line, one that names what `base` hasn't, one that names a row or a cown again, or one with which the text is longer than
 /// [`MOST_NAMES`] bytes is refused for its first such line.

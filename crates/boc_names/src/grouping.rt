@@ -18,7 +18,7 @@ pub(crate) struct Groups {
     pub names: Vec<Vec<u8>>,
 }
 
-// The number of the group of a text, where the groups with these names are known. A new group takes the next number.
+// Returns the number of the group of a text, where the groups with these names are known. A new group takes the next number.
 fn number_of<'a>(
     alloc: Global,
     seen: &mut BTreeMap<&'a [u8], u32>,

@@ -1,4 +1,4 @@
-// The cowns of a behaviour, as its text tells them.
+// The cowns of a behaviour, as its text names them.
 
 ghost use Rattle.std.specs.Prelude.{◌≡◌, ◌+◌, ◌<◌, ◌≤◌, ◌^◌, ◌∷◌, ◌++◌, codes, drop, flat_map, length, map, slice_get, take, IfOk, OnOk};
 ghost use Rattle.boc_program.specs.Sizes.{members};
@@ -13,10 +13,10 @@ use boc_text::put_number;
 use std::alloc::{AllocError, Global};
 use std::marker::Model;
 
-// So many members of an array that follow each other, or more, are told by the first and the last of them.
+// At least this many members of an array that follow each other are reported by the first and the last of them.
 const LEAST_RANGE: usize = 3;
 
-/// Where a cown stands in the text of a program.
+/// Where a cown is in the text of a program.
 #[derive(Clone, Copy, Debug)]
 pub struct Place {
     /// The number of its declaration.
@@ -27,7 +27,7 @@ pub struct Place {
 
 /// The cowns of a program by their names.
 ///
-/// Contracts see what each is called, where each stands, and the names in the declarations.
+/// Contracts see what each is called, where each is, and the names in the declarations.
 #[derive(Drop)]
 pub struct CownNames {
     names: Vec<Vec<u8>>,
@@ -43,7 +43,7 @@ impl Model for CownNames {
     ghost view = { λ c. record { names = texts_of c.names.items; places = c.places.items; declared = texts_of c.declared.items } };
 }
 
-// Puts the places of the cowns of a declaration behind others.
+// Appends the places of the cowns of a declaration to others.
 fn put_declared_places(
     places: &mut Vec<Place>,
     declaration: u32,
@@ -61,7 +61,7 @@ fn put_declared_places(
     Ok(())
 }
 
-// Puts the places of the cowns of declarations behind others. The first declaration has this number.
+// Appends the places of the cowns of declarations to others. The first declaration has this number.
 fn put_places(places: &mut Vec<Place>, number: u32, cowns: &[Cown]) -> Result<(), AllocError>
     requires { number + length cowns.now < 2 ^ 32 }
     ensures { OnOk result (places.new.items ≡ places.old.items ++ places_from number cowns.now) }
@@ -75,7 +75,7 @@ fn put_places(places: &mut Vec<Place>, number: u32, cowns: &[Cown]) -> Result<()
     }
 }
 
-// Where the cowns of declarations stand.
+// Returns where the cowns of declarations are.
 fn places_of(alloc: Global, cowns: &[Cown]) -> Result<Vec<Place>, AllocError>
     requires { length cowns.now < 2 ^ 32 }
     ensures { IfOk result (λ places. places.items ≡ places_from 0 cowns.now) }
@@ -85,7 +85,7 @@ fn places_of(alloc: Global, cowns: &[Cown]) -> Result<Vec<Place>, AllocError>
     Ok(places)
 }
 
-// The names in declarations.
+// Returns the names in declarations.
 fn declared_names(alloc: Global, cowns: &[Cown]) -> Result<Vec<Vec<u8>>, AllocError>
     ensures { IfOk result (λ names. texts_of names.items ≡ map (λ c. c.name) cowns.now) }
 {
@@ -96,7 +96,7 @@ fn declared_names(alloc: Global, cowns: &[Cown]) -> Result<Vec<Vec<u8>>, AllocEr
     Ok(names)
 }
 
-// Puts the members of an array from the first of some numbers to the last behind a text.
+// Appends to a text the members of an array from the first of some numbers to the last.
 fn put_range(text: &mut Vec<u8>, array: &[u8], first: u64, last: u64) -> Result<(), AllocError>
     ensures { OnOk result (text.new.items ≡ text.old.items ++ range_text array.now first last) }
 {
@@ -110,7 +110,7 @@ fn put_range(text: &mut Vec<u8>, array: &[u8], first: u64, last: u64) -> Result<
 }
 
 impl CownNames {
-    /// The cowns of these declarations. `AllocError` says that memory was refused.
+    /// Returns the cowns of these declarations. `AllocError` says that memory was refused.
     pub fn of(alloc: Global, cowns: &[Cown]) -> Result<CownNames, AllocError>
         requires { length cowns.now < 2 ^ 32 }
         ensures { IfOk result (λ named. named ≡ named_cowns cowns.now) }
@@ -122,14 +122,14 @@ impl CownNames {
         })
     }
 
-    /// What each cown is called.
+    /// Returns what each cown is called.
     pub fn into_names(self) -> Vec<Vec<u8>>
         ensures { texts_of result.items ≡ self.names }
     {
         self.names
     }
 
-    // Whether a cown goes on from another.
+    // Returns whether a cown goes on from another.
     fn goes_on(&self, cown: CownNo, next: CownNo) -> bool
         ensures { result ≡ goes_on self.now cown next }
     {
@@ -145,7 +145,7 @@ impl CownNames {
         }
     }
 
-    // How many cowns stand in the first stretch.
+    // Returns how many cowns are in the first stretch.
     fn stretch_len(&self, held: &[CownNo]) -> usize
         requires { 0 < length held.now }
         ensures some { 0 < result }
@@ -159,7 +159,7 @@ impl CownNames {
         end
     }
 
-    // Puts cowns behind others, each by its name.
+    // Appends cowns to others, each by its name.
     fn put_more_each(&self, text: &mut Vec<u8>, held: &[CownNo]) -> Result<(), AllocError>
         ensures { OnOk result (text.new.items ≡ text.old.items ++ flat_map (λ name. codes ", " ++ name) (map (text_at self.now.names) held.now)) }
     {
@@ -170,7 +170,7 @@ impl CownNames {
         Ok(())
     }
 
-    // Puts cowns behind a text, each by its name.
+    // Appends cowns to a text, each by its name.
     fn put_each(&self, text: &mut Vec<u8>, held: &[CownNo]) -> Result<(), AllocError>
         ensures { OnOk result (text.new.items ≡ text.old.items ++ separated (map (text_at self.now.names) held.now)) }
     {
@@ -183,7 +183,7 @@ impl CownNames {
         }
     }
 
-    // Puts the members of an array from one to another behind a text.
+    // Appends to a text the members of an array from one to another.
     fn put_between(&self, text: &mut Vec<u8>, first: CownNo, last: CownNo) -> Result<(), AllocError>
         ensures { OnOk result (text.new.items
             ≡ text.old.items ++ between self.now.declared (slice_get self.now.places first) (slice_get self.now.places last)) }
@@ -200,7 +200,7 @@ impl CownNames {
         }
     }
 
-    // Puts cowns that follow each other in one array behind a text.
+    // Appends cowns that follow each other in one array to a text.
     fn put_stretch(&self, text: &mut Vec<u8>, stretch: &[CownNo]) -> Result<(), AllocError>
         ensures { OnOk result (text.new.items ≡ text.old.items ++ stretch_text self.now stretch.now) }
     {
@@ -211,7 +211,7 @@ impl CownNames {
         }
     }
 
-    // Puts cowns behind others, those that follow each other in one array together.
+    // Appends cowns to others, those that follow each other in one array together.
     fn put_more_held(&self, text: &mut Vec<u8>, held: &[CownNo]) -> Result<(), AllocError>
         ensures { OnOk result (text.new.items ≡ text.old.items
             ++ flat_map (λ told. codes ", " ++ told) (map (stretch_text self.now) (stretches (goes_on self.now) held.now))) }
@@ -226,7 +226,7 @@ impl CownNames {
         Ok(())
     }
 
-    /// Puts the cowns of a behaviour behind a text, those that follow each other in one array together.
+    /// Appends the cowns of a behaviour to a text, those that follow each other in one array together.
     pub fn put_held(&self, text: &mut Vec<u8>, held: &[CownNo]) -> Result<(), AllocError>
         ensures { OnOk result (text.new.items ≡ text.old.items ++ held_text self.now held.now) }
     {

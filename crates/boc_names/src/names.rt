@@ -1,13 +1,15 @@
 // The names of a run.
 
-ghost use Rattle.std.specs.Prelude.{◌≡◌, ◌∷◌, ◌++◌, codes, map, IfOk, OnOk};
-ghost use Rattle.boc_runs.specs.Run.{config_of};
-ghost use Rattle.boc_names.specs.Names.{AreNamesOf, AreNumbers, member_text, numbered_from, numbers_from, texts_of};
+ghost use Rattle.std.specs.Prelude.{◌≡◌, ◌∷◌, ◌++◌, ◌^◌, ◌<◌, ℕ, List, Some, codes, map, slice_get, IfOk, OnOk};
+ghost use Rattle.boc_runs.specs.Run.{Member};
+ghost use Rattle.boc_eval.specs.Instances.{AreKnown, AreRowsOf};
+ghost use Rattle.boc_names.specs.Names.{AreNamesOf, AreNumbers, instance_text, numbered_from, numbers_from, texts_of};
 
 use crate::behaviours::behaviour_text;
 use crate::held::CownNames;
 use crate::texts::{copied, family_names, family_numbers, numbered};
-use boc_follow::Follower;
+use boc_eval::Instance;
+use boc_program::program::Program;
 use boc_program::text::Name;
 use std::alloc::{AllocError, Global};
 
@@ -28,7 +30,7 @@ pub struct Names {
     pub family_names: Vec<Vec<u8>>,
 }
 
-// Puts the names of defs behind others.
+// Appends the names of defs to others.
 fn put_names(alloc: Global, names: &mut Vec<Vec<u8>>, defs: &[Name]) -> Result<(), AllocError>
     ensures { OnOk result (texts_of names.new.items ≡ texts_of names.old.items ++ defs.now) }
 {
@@ -41,7 +43,7 @@ fn put_names(alloc: Global, names: &mut Vec<Vec<u8>>, defs: &[Name]) -> Result<(
     }
 }
 
-/// Main's name, and those of the defs, which are given in the order of the text. `AllocError` says that memory was refused.
+/// Returns main's name, and those of the defs, which are given in the order of the text. `AllocError` says that memory was refused.
 pub fn def_names(alloc: Global, defs: &[Name]) -> Result<Vec<Vec<u8>>, AllocError>
     ensures { IfOk result (λ names. texts_of names.items ≡ codes "main" ∷ defs.now) }
 {
@@ -51,39 +53,43 @@ pub fn def_names(alloc: Global, defs: &[Name]) -> Result<Vec<Vec<u8>>, AllocErro
     Ok(names)
 }
 
-// For each row of a run the number of its def, and what it is called.
+// Returns for each of some rows the number of its def, and what it is called.
 fn row_names(
     alloc: Global,
-    run: &Follower<'_>,
+    instances: &[Instance],
     defs: &[Vec<u8>],
     cowns: &CownNames,
 ) -> Result<(Vec<u32>, Vec<Vec<u8>>), AllocError>
-    ensures kinds { IfOk result (λ found. found.0.items ≡ map (λ m. m.behaviour.kind) (config_of run.now.program run.now.log).members) }
-    ensures rows { IfOk result (λ found. texts_of found.1.items
-        ≡ map (member_text (texts_of defs.now) cowns.now) (config_of run.now.program run.now.log).members) }
+    requires { (row : ℕ) (i : Instance) → slice_get instances.now row ≡ Some i → i.kind < 2 ^ 32 }
+    ensures kinds { IfOk result (λ found. found.0.items ≡ map (λ i. i.kind) instances.now) }
+    ensures rows { IfOk result (λ found. texts_of found.1.items ≡ map (instance_text (texts_of defs.now) cowns.now) instances.now) }
 {
-    let mut kinds = Vec::with_capacity(alloc, run.rows())?;
-    let mut rows = Vec::with_capacity(alloc, run.rows())?;
-    for row in 0..run.rows() {
-        let Some(named) = run.named(row as u32) else {
-            unreachable!()
-        };
-        kinds.push(named.kind as u32)?;
-        let text = behaviour_text(alloc, defs, cowns, named.kind, named.args, named.cowns)?;
+    let mut kinds = Vec::with_capacity(alloc, instances.len())?;
+    let mut rows = Vec::with_capacity(alloc, instances.len())?;
+    for row in 0..instances.len() {
+        let instance = &instances[row];
+        kinds.push(instance.kind as u32)?;
+        let text = behaviour_text(alloc, defs, cowns, instance)?;
         rows.push(text)?;
     }
     Ok((kinds, rows))
 }
 
-/// The names of the rows of a run and of its cowns. The names of the program's defs are given in the order of the text. `AllocError` says
-/// that memory was refused.
-pub fn names_of_run(alloc: Global, run: &Follower<'_>, defs: &[Name]) -> Result<Names, AllocError>
-    ensures { IfOk result (AreNamesOf run.now.program defs.now (config_of run.now.program run.now.log).members) }
+/// Returns the names of the rows of a run of a program, which are these, and of its cowns. The names of the program's defs are given in the order of the text.
+/// `AllocError` says that memory was refused.
+pub fn names_of_run(
+    alloc: Global,
+    program: &Program,
+    defs: &[Name],
+    instances: &[Instance],
+) -> Result<Names, AllocError>
+    requires { AreKnown program.now instances.now }
+    ensures { IfOk result (λ names. (run : List Member) → AreRowsOf run instances.now → AreNamesOf program.now defs.now run names) }
 {
-    let declared = run.program().cowns.as_slice();
+    let declared = program.cowns.as_slice();
     let def_names = def_names(alloc, defs)?;
     let cowns = CownNames::of(alloc, declared)?;
-    let (defs, rows) = row_names(alloc, run, &def_names, &cowns)?;
+    let (defs, rows) = row_names(alloc, instances, &def_names, &cowns)?;
     Ok(Names {
         defs,
         def_names,
@@ -94,7 +100,7 @@ pub fn names_of_run(alloc: Global, run: &Follower<'_>, defs: &[Name]) -> Result<
     })
 }
 
-// A word with the numbers of so many things.
+// Returns a word with the number of each of `count` things.
 fn all_numbered(alloc: Global, word: &str, count: u32) -> Result<Vec<Vec<u8>>, AllocError>
     ensures { IfOk result (λ names. texts_of names.items ≡ numbered_from word.now 0 count) }
 {
@@ -105,7 +111,7 @@ fn all_numbered(alloc: Global, word: &str, count: u32) -> Result<Vec<Vec<u8>>, A
     Ok(names)
 }
 
-// The numbers of so many things.
+// Returns the numbers of `count` things.
 fn all_numbers(alloc: Global, count: u32) -> Result<Vec<u32>, AllocError>
     ensures { IfOk result (λ numbers. numbers.items ≡ numbers_from 0 count) }
 {
@@ -116,7 +122,8 @@ fn all_numbers(alloc: Global, count: u32) -> Result<Vec<u32>, AllocError>
     Ok(numbers)
 }
 
-/// So many rows and cowns by their numbers, each row a def for itself, and each cown a family. `AllocError` says that memory was refused.
+/// Returns the names of `rows` rows and `cowns` cowns by their numbers, each row a def for itself, and each cown a family. `AllocError` says that memory was
+/// refused.
 pub fn numbers_as_names(alloc: Global, rows: u32, cowns: u32) -> Result<Names, AllocError>
     ensures { IfOk result (AreNumbers rows cowns) }
 {

@@ -19,7 +19,7 @@ pub(crate) struct Thing {
     pub is_named: bool,
 }
 
-// The name of the group of the thing at a place, where things have these numbers.
+// Returns the name of the group of the thing at a place, where things have these numbers.
 fn group_name(
     alloc: Global,
     names: &[Vec<u8>],
@@ -32,7 +32,7 @@ fn group_name(
     copied(alloc, text_at(names, numbers[place] as usize))
 }
 
-/// Things that no file has named: they are called so, and the group of each has the name that stands at its number.
+/// Returns things that no file has named: they are called so, and the group of each has the name that is at its number.
 pub(crate) fn unnamed(
     alloc: Global,
     texts: Vec<Vec<u8>>,
@@ -56,7 +56,7 @@ pub(crate) fn unnamed(
     Ok(things)
 }
 
-/// The thing with this number is called so from now on. Where there is none, `missing` is refused.
+/// Gives the thing with this number this name. Where there is none, `missing` is refused.
 pub(crate) fn call(
     things: &mut Vec<Thing>,
     number: u32,
@@ -80,7 +80,7 @@ pub(crate) fn call(
     Ok(())
 }
 
-/// What things are called, and the names of their groups.
+/// Returns what things are called, and the names of their groups.
 pub(crate) fn parted(
     alloc: Global,
     things: Vec<Thing>,

@@ -8,10 +8,10 @@ use boc_program::cown::Cown;
 use boc_text::put_number;
 use std::alloc::{AllocError, Global};
 
-// The room that a short word and a number of 32 bits need, so that it is asked for once.
+// The capacity that a short word and a number of 32 bits need, so that memory is requested once.
 const NUMBERED_ROOM: usize = 16;
 
-/// A word and a number behind it.
+/// Returns a word and a number after it.
 pub(crate) fn numbered(alloc: Global, word: &str, number: u64) -> Result<Vec<u8>, AllocError>
     ensures { IfOk result (λ text. text.items ≡ numbered word.now number) }
 {
@@ -21,7 +21,7 @@ pub(crate) fn numbered(alloc: Global, word: &str, number: u64) -> Result<Vec<u8>
     Ok(text)
 }
 
-// The name of a member of an array.
+// Returns the name of a member of an array.
 fn member_name(alloc: Global, name: &str, member: u64) -> Result<Vec<u8>, AllocError>
     ensures { IfOk result (λ text. text.items ≡ member_name name.now member) }
 {
@@ -33,7 +33,7 @@ fn member_name(alloc: Global, name: &str, member: u64) -> Result<Vec<u8>, AllocE
     Ok(text)
 }
 
-/// A text once more.
+/// Returns a copy of a text.
 pub(crate) fn copied(alloc: Global, text: &[u8]) -> Result<Vec<u8>, AllocError>
     ensures { IfOk result (λ copy. copy.items ≡ text.now) }
 {
@@ -42,7 +42,7 @@ pub(crate) fn copied(alloc: Global, text: &[u8]) -> Result<Vec<u8>, AllocError>
     Ok(copy)
 }
 
-// Puts the names of the members of an array behind other names.
+// Appends the names of the members of an array to other names.
 fn put_members(
     alloc: Global,
     names: &mut Vec<Vec<u8>>,
@@ -57,7 +57,7 @@ fn put_members(
     Ok(())
 }
 
-// Puts the names of the cowns of a declaration behind others.
+// Appends the names of the cowns of a declaration to others.
 fn put_declared(alloc: Global, names: &mut Vec<Vec<u8>>, cown: &Cown) -> Result<(), AllocError>
     ensures { OnOk result (texts_of names.new.items ≡ texts_of names.old.items ++ declared_names cown.now.name cown.now.size) }
 {
@@ -70,7 +70,7 @@ fn put_declared(alloc: Global, names: &mut Vec<Vec<u8>>, cown: &Cown) -> Result<
     }
 }
 
-// Puts the names of cowns behind others.
+// Appends the names of cowns to others.
 fn put_cowns(alloc: Global, names: &mut Vec<Vec<u8>>, cowns: &[Cown]) -> Result<(), AllocError>
     ensures { OnOk result (texts_of names.new.items ≡ texts_of names.old.items ++ cown_names cowns.now) }
 {
@@ -83,7 +83,7 @@ fn put_cowns(alloc: Global, names: &mut Vec<Vec<u8>>, cowns: &[Cown]) -> Result<
     }
 }
 
-/// The names of cowns, in the order of their numbers: those of single ones, and of the members of arrays. `AllocError` says that memory was refused.
+/// Returns the names of cowns, in the order of their numbers: those of single ones, and of the members of arrays. `AllocError` says that memory was refused.
 pub fn cown_names(alloc: Global, cowns: &[Cown]) -> Result<Vec<Vec<u8>>, AllocError>
     ensures { IfOk result (λ names. texts_of names.items ≡ cown_names cowns.now) }
 {
@@ -92,7 +92,7 @@ pub fn cown_names(alloc: Global, cowns: &[Cown]) -> Result<Vec<Vec<u8>>, AllocEr
     Ok(names)
 }
 
-// The name of all cowns of a declaration together.
+// Returns the name of all cowns of a declaration together.
 fn family_name(alloc: Global, cown: &Cown) -> Result<Vec<u8>, AllocError>
     ensures { IfOk result (λ text. text.items ≡ family_name cown.now.name cown.now.size) }
 {
@@ -103,7 +103,7 @@ fn family_name(alloc: Global, cown: &Cown) -> Result<Vec<u8>, AllocError>
     Ok(text)
 }
 
-// Puts the names of declarations of cowns behind others.
+// Appends the names of declarations of cowns to others.
 fn put_family_names(
     alloc: Global,
     names: &mut Vec<Vec<u8>>,
@@ -120,7 +120,7 @@ fn put_family_names(
     }
 }
 
-/// The names of the declarations of cowns, in their order.
+/// Returns the names of the declarations of cowns, in their order.
 pub(crate) fn family_names(alloc: Global, cowns: &[Cown]) -> Result<Vec<Vec<u8>>, AllocError>
     ensures { IfOk result (λ names. texts_of names.items ≡ family_names cowns.now) }
 {
@@ -129,7 +129,7 @@ pub(crate) fn family_names(alloc: Global, cowns: &[Cown]) -> Result<Vec<Vec<u8>>
     Ok(names)
 }
 
-// Puts the number of a declaration behind others, for each of its cowns.
+// Appends the number of a declaration to others, for each of its cowns.
 fn put_family(families: &mut Vec<u32>, number: u32, cowns: usize) -> Result<(), AllocError>
     ensures { OnOk result (families.new.items ≡ families.old.items ++ replicate cowns number) }
 {
@@ -139,7 +139,7 @@ fn put_family(families: &mut Vec<u32>, number: u32, cowns: usize) -> Result<(), 
     Ok(())
 }
 
-// Puts the numbers of declarations behind others, of which the first has this one, for each of their cowns.
+// Appends the numbers of declarations to others, of which the first has this one, for each of their cowns.
 fn put_families(families: &mut Vec<u32>, number: u32, cowns: &[Cown]) -> Result<(), AllocError>
     requires { number + length cowns.now < 2 ^ 32 }
     ensures { OnOk result (families.new.items ≡ families.old.items ++ family_numbers number cowns.now) }
@@ -153,7 +153,7 @@ fn put_families(families: &mut Vec<u32>, number: u32, cowns: &[Cown]) -> Result<
     }
 }
 
-/// For each cown the number of its declaration.
+/// Returns for each cown the number of its declaration.
 pub(crate) fn family_numbers(alloc: Global, cowns: &[Cown]) -> Result<Vec<u32>, AllocError>
     requires { length cowns.now < 2 ^ 32 }
     ensures { IfOk result (λ families. families.items ≡ family_numbers 0 cowns.now) }
@@ -163,7 +163,7 @@ pub(crate) fn family_numbers(alloc: Global, cowns: &[Cown]) -> Result<Vec<u32>, 
     Ok(families)
 }
 
-/// The name at a place, and no text where there is none.
+/// Returns the name at a place, and no text where there is none.
 pub fn text_at(names: &[Vec<u8>], place: usize) -> &[u8]
     ensures { result.now ≡ text_at (texts_of names.now) place }
 {

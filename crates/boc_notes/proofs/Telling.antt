@@ -1,4 +1,4 @@
--- The notes of which the first are told.
+-- The notes of which the first are reported.
 use Rattle.std.proofs.Common.{◌≡◌, ◌∙◌, ℕ, ◌-◌, List, ◌++◌, length, map, take, ap, sym}
 use Rattle.std.proofs.lemmas.List.{length-map, take-map}
 use Rattle.boc_eval.specs.declared.serial.Faulted.{Faulted}
@@ -6,7 +6,7 @@ use Rattle.boc_eval.specs.Faulted.{FaultedRow, row_of, rows_of}
 use Rattle.boc_notes.specs.declared.note.TheConstants.{MOST_NOTED}
 use Rattle.boc_notes.specs.Notes.{Noted, first_noted, more_text, note_texts, notes_text}
 
--- what is told of the first of some things, and how many more there are, is what is told of them all
+-- what is reported of the first of some things, and how many more there are, is what is reported of them all
 pub told_of_all : {A : Type 0} (f : A → Noted) (things : List A) (notes : List Noted) (told : List ℕ) → notes ≡ map f (first_noted things)
     → told ≡ note_texts notes ++ more_text (length things - MOST_NOTED) → told ≡ notes_text (map f things)
 told_of_all f things notes told are is =

@@ -9,8 +9,9 @@ use Rattle.boc_program.specs.declared.body.EndStatus.TheVariants as statuses
 use Rattle.boc_runs.specs.declared.rows.Row.{Row}
 use Rattle.boc_runs.specs.Rows.{ticks_of}
 use Rattle.boc_eval.specs.Faulted.{FaultedRow}
+use Rattle.boc_eval.specs.declared.instance.Instance.{Instance}
+use Rattle.boc_eval.specs.declared.instance.ToldRow.{ToldRow}
 use Rattle.boc_names.specs.Names.{NamedCowns, Text, behaviour_text, numbered, text_at}
-use Rattle.boc_notes.specs.declared.named.NamedRow.{NamedRow}
 use Rattle.boc_notes.specs.declared.note.Note.{Note}
 use Rattle.boc_notes.specs.declared.note.TheConstants.{MOST_NOTED}
 
@@ -27,7 +28,7 @@ pub record Noted : Type 0 where
 abbrev pub noted : Note → Noted
 noted note = record { row = note.row; called = note.called.items; ticks = note.ticks; status = note.status }
 
--- the first of some things, as many as are told one by one
+-- the first of some things, as many as are reported one by one
 abbrev pub first_noted : {A : Type 0} → List A → List A
 first_noted items = take MOST_NOTED items
 
@@ -62,22 +63,17 @@ note_of_named rows name r = record { row = r; called = own_name name r; ticks = 
 abbrev pub note_of_row : List Text → List Row → ℕ → Noted
 note_of_row called rows r = note_of_named rows (text_at called r) r
 
--- ---- rows of which it is told one by one what they are called
+-- ---- rows of which it is told what they are
 
--- each of these rows is called so by a list of names
-abbrev pub AreCalled : List Text → List NamedRow → Type 0
-AreCalled called [] = Unit {0}
-AreCalled called (n ∷ named) = (text_at called n.row ≡ n.name.items) × AreCalled called named
+-- what a row is, where that is reported
+abbrev pub instance_told : List ToldRow → ℕ → Option Instance
+instance_told [] r = None
+instance_told (t ∷ told) r = cond (t.row == r) (Some t.instance) (instance_told told r)
 
--- what a row is called, where that is told
-abbrev pub name_told : List NamedRow → ℕ → Option Text
-name_told [] r = None
-name_told (n ∷ named) r = cond (n.row == r) (Some n.name.items) (name_told named r)
-
--- of some row it isn't told what it is called
-abbrev pub LacksName : List NamedRow → List ℕ → Type 0
-LacksName named [] = ⊥
-LacksName named (r ∷ rows) = (name_told named r ≡ None) ⊎ LacksName named rows
+-- of some row it isn't told what it is
+abbrev pub LacksTold : List ToldRow → List ℕ → Type 0
+LacksTold told [] = ⊥
+LacksTold told (r ∷ rows) = (instance_told told r ≡ None) ⊎ LacksTold told rows
 
 -- ---- the behaviours of a serial run
 
@@ -102,7 +98,7 @@ status_text statuses.SameCown = codes "4 SameCown"
 status_text statuses.Negative = codes "5 Negative"
 status_text statuses.TickCap = codes "6 TickCap"
 
--- a name behind a row's number, if there is one
+-- a name after a row's number, if there is one
 abbrev pub called_text : Text → Text
 called_text [] = []
 called_text (b ∷ name) = codes ", " ++ (b ∷ name) ++ codes ","
@@ -124,7 +120,7 @@ abbrev pub note_texts : List Noted → Text
 note_texts [] = []
 note_texts (n ∷ notes) = note_text n ++ note_texts notes
 
--- a line that tells how many more there are, if there are more
+-- a line that says how many more there are, if there are more
 abbrev pub more_text : ℕ → Text
 more_text zero = []
 more_text (suc n) = codes "boc: note: " ++ decimal (suc n) ++ codes " more ended by a fault\n"

@@ -7,7 +7,7 @@ use boc_program::body::EndStatus;
 use boc_text::put_number;
 use std::alloc::{AllocError, Global};
 
-/// So many are told one by one at the most.
+/// At most this many are reported one by one.
 pub const MOST_NOTED: usize = 10;
 
 /// A row that ended by a fault.
@@ -21,7 +21,7 @@ pub(crate) struct Note {
     pub(crate) status: EndStatus,
 }
 
-/// The first of some things, as many as are told one by one.
+/// Returns the first of some things, as many as are reported one by one.
 pub(crate) fn first_noted<T>(items: &[T]) -> &[T]
     ensures { result.now ≡ first_noted items.now }
 {
@@ -31,7 +31,7 @@ pub(crate) fn first_noted<T>(items: &[T]) -> &[T]
     }
 }
 
-// The number and the name of a status.
+// Returns the number and the name of a status.
 fn status_text(status: EndStatus) -> &'static str
     ensures { result.now ≡ status_text status }
 {
@@ -46,7 +46,7 @@ fn status_text(status: EndStatus) -> &'static str
     }
 }
 
-// Puts what a row is called behind its number, where it has a name.
+// Appends what a row is called to its number, where it has a name.
 fn put_called(text: &mut Vec<u8>, called: &[u8]) -> Result<(), AllocError>
     ensures { OnOk result (text.new.items ≡ text.old.items ++ called_text called.now) }
 {
@@ -83,7 +83,7 @@ fn put_end(text: &mut Vec<u8>, note: &Note) -> Result<(), AllocError>
     Ok(())
 }
 
-// Puts the line of a row that ended by a fault behind others.
+// Appends the line of a row that ended by a fault to others.
 fn put_note(text: &mut Vec<u8>, note: &Note) -> Result<(), AllocError>
     ensures { OnOk result (text.new.items ≡ text.old.items ++ note_text (noted note.now)) }
 {
@@ -92,7 +92,7 @@ fn put_note(text: &mut Vec<u8>, note: &Note) -> Result<(), AllocError>
     Ok(())
 }
 
-// Puts the lines of rows that ended by a fault behind others.
+// Appends the lines of rows that ended by a fault to others.
 fn put_notes(text: &mut Vec<u8>, notes: &[Note]) -> Result<(), AllocError>
     ensures { OnOk result (text.new.items ≡ text.old.items ++ note_texts (map noted notes.now)) }
 {
@@ -105,7 +105,7 @@ fn put_notes(text: &mut Vec<u8>, notes: &[Note]) -> Result<(), AllocError>
     }
 }
 
-// Puts a line that tells how many more there are, if there are more.
+// Appends a line that says how many more there are, if there are more.
 fn put_more(text: &mut Vec<u8>, more: usize) -> Result<(), AllocError>
     ensures { OnOk result (text.new.items ≡ text.old.items ++ more_text more) }
 {
@@ -117,7 +117,7 @@ fn put_more(text: &mut Vec<u8>, more: usize) -> Result<(), AllocError>
     text.extend_from_slice(b" more ended by a fault\n")
 }
 
-/// The lines of the rows that are told one by one, of so many that ended by a fault, and of how many more there are.
+/// Returns the lines of the rows that are reported one by one, of `count` that ended by a fault, and of how many more there are.
 pub(crate) fn text_of(alloc: Global, notes: &[Note], count: usize) -> Result<Vec<u8>, AllocError>
     ensures { IfOk result (λ text. text.items ≡ note_texts (map noted notes.now) ++ more_text (count - MOST_NOTED)) }
 {

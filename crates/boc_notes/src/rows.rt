@@ -11,7 +11,7 @@ use boc_runs::rows::Row;
 use boc_text::put_number;
 use std::alloc::{AllocError, Global};
 
-// How a row ended; a row that isn't there is over without a fault.
+// Returns how a row ended; a row that isn't there ended without a fault.
 fn status_at(rows: &[Row], row: usize) -> EndStatus
     ensures { result ≡ status_at rows.now row }
 {
@@ -21,14 +21,14 @@ fn status_at(rows: &[Row], row: usize) -> EndStatus
     }
 }
 
-// Whether a row ended by a fault.
+// Returns whether a row ended by a fault.
 fn has_fault(rows: &[Row], row: usize) -> bool
     ensures { result ≡ has_fault rows.now row }
 {
     !matches!(status_at(rows, row), EndStatus::Done)
 }
 
-/// The numbers of the rows that ended by a fault, rising.
+/// Returns the numbers of the rows that ended by a fault, rising.
 pub fn faulted_rows(alloc: Global, rows: &[Row]) -> Result<Vec<u32>, AllocError>
     requires { length rows.now < 2 ^ 32 }
     ensures { IfOk result (λ faulted. faulted.items ≡ faulted_rows rows.now) }
@@ -42,7 +42,7 @@ pub fn faulted_rows(alloc: Global, rows: &[Row]) -> Result<Vec<u32>, AllocError>
     Ok(faulted)
 }
 
-// What a row that is called so is called, where that is more than its number.
+// Returns what a row that is called so is called, where that is more than its number.
 fn own_name(alloc: Global, name: &[u8], row: u32) -> Result<Vec<u8>, AllocError>
     ensures { IfOk result (λ own. own.items ≡ own_name name.now row) }
 {
@@ -57,7 +57,7 @@ fn own_name(alloc: Global, name: &[u8], row: u32) -> Result<Vec<u8>, AllocError>
     Ok(own)
 }
 
-/// What is noted of a row that is called so.
+/// Returns what is noted of a row that is called so.
 pub(crate) fn note_of(
     alloc: Global,
     rows: &[Row],
@@ -79,7 +79,7 @@ pub(crate) fn note_of(
     })
 }
 
-// Puts what is noted of some rows behind others.
+// Appends what is noted of some rows to others.
 fn put_notes(
     alloc: Global,
     notes: &mut Vec<Note>,
@@ -99,7 +99,7 @@ fn put_notes(
     }
 }
 
-/// The notes on those of some rows that have these numbers, called as in this list, where a row has a name there that is more than its number.
+/// Returns the notes on those of some rows that have these numbers, called as in this list, where a row has a name there that is more than its number.
 pub fn notes_on_rows(
     alloc: Global,
     rows: &[Row],

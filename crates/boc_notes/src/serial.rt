@@ -12,7 +12,7 @@ use boc_program::program::Program;
 use boc_program::text::Name;
 use std::alloc::{AllocError, Global};
 
-// What is noted of a behaviour, with defs and cowns called so.
+// Returns what is noted of a behaviour, with defs and cowns called so.
 fn note_of(
     alloc: Global,
     defs: &[Vec<u8>],
@@ -21,14 +21,7 @@ fn note_of(
 ) -> Result<Note, AllocError>
     ensures { IfOk result (λ note. noted note ≡ note_of_behaviour (texts_of defs.now) cowns.now (row_of faulted.now)) }
 {
-    let called = behaviour_text(
-        alloc,
-        defs,
-        cowns,
-        faulted.kind,
-        &faulted.args,
-        &faulted.cowns,
-    )?;
+    let called = behaviour_text(alloc, defs, cowns, &faulted.instance)?;
     Ok(Note {
         row: faulted.row,
         called,
@@ -37,7 +30,7 @@ fn note_of(
     })
 }
 
-// Puts what is noted of some behaviours behind others.
+// Appends what is noted of some behaviours to others.
 fn put_notes(
     alloc: Global,
     notes: &mut Vec<Note>,
@@ -57,7 +50,7 @@ fn put_notes(
     }
 }
 
-/// The notes on the behaviours of a serial run of a program that ended by a fault. The names of the program's defs are given in the order of the text.
+/// Returns the notes on the behaviours of a serial run of a program that ended by a fault. The names of the program's defs are given in the order of the text.
 pub fn notes_on_serial(
     alloc: Global,
     program: &Program,

@@ -10,7 +10,8 @@ use Rattle.boc_outcomes.specs.declared.tally.Outcome.{Outcome}
 use Rattle.boc_outcomes.specs.declared.tally.Outcomes.{Outcomes}
 use Rattle.boc_outcomes.specs.Samples.{Sample, seed_of}
 use Rattle.boc_outcomes.specs.Tallies.{Any, AreBounds, AreSame, HasOutcomes, IsFirstTo, IsOutcome, IsSame, IsTally, StandInOrder, StandsBefore, runs_to}
-use Rattle.boc_outcomes.proofs.Counting.{contains_at, one_first}
+use Rattle.boc_order.proofs.Places.{contains_from_place}
+use Rattle.boc_outcomes.proofs.Counting.{one_first}
 
 abbrev bounds_made : ℕ → ℕ → Bounds
 bounds_made least most = record { least = least; most = most }
@@ -63,7 +64,7 @@ module _ (seed : ℕ) (samples : List Sample) where
     twin : (i : ℕ) (x : Outcome) → slice_get xs i ≡ Some x → Twin ys x
     twin i x is =
         let first = (hx.each i x is).first in
-        let h = hy.all first.sample (contains_at samples x.first first.sample first.there) in
+        let h = hy.all first.sample (contains_from_place samples x.first first.sample first.there) in
         record {
           place = h.place;
           outcome = h.outcome;

@@ -1,25 +1,18 @@
 -- How often values come, and where first, with one more sample.
-use Rattle.std.proofs.Common.{◌≡◌, ◌≢◌, ℕ, ◌+◌, ◌<◌, List, [], ◌∷◌, ◌++◌, length, cond, arith, refl, sym, ap, ◌∙◌, ⊎_elim, Some, ℤ, true, false}
+use Rattle.std.proofs.Common.{◌≡◌, ◌≢◌, ℕ, ◌+◌, ◌<◌, List, [], ◌∷◌, ◌++◌, length, cond, arith, refl, sym, ap, ◌∙◌, ⊎_elim, ℤ, true, false}
 use Rattle.std.proofs.Common.{Decides, Bool}
-use Rattle.std.specs.Prelude.{slice_get}
 use Rattle.std.specs.Cmp.Lexicographic.{pointwise_decides}
 use Rattle.std.specs.List.{Contains}
 use Rattle.std.proofs.lemmas.Bool.{cond-true, cond-false, cases_order}
 use Rattle.std.proofs.lemmas.Bool.Decides.{Decides-int_eq}
 use Rattle.std.proofs.lemmas.List.Elements.{Contains-append_right}
 use Rattle.std.proofs.lemmas.List.Sums.{sum_by-cons, sum_by_push}
-use Rattle.std.proofs.lemmas.Option.{slice_get_within, slice_get-get_or, get_or_from_slice_get}
+use Rattle.std.proofs.lemmas.Option.{slice_get_within}
 use Rattle.boc_program.proofs.ChangedItems.{front_item, last_item}
 use Rattle.boc_rules.proofs.Lists.{one_got}
+use Rattle.boc_order.proofs.Places.{contains_from_place}
 use Rattle.boc_outcomes.specs.Samples.{Sample}
 use Rattle.boc_outcomes.specs.Tallies.{IsFirstTo, comes_to, runs_to}
-
--- what stands at a place is there, and what is there stands at one
-pub contains_at : {X : Type 0} (xs : List X) (k : ℕ) (x : X) → slice_get xs k ≡ Some x → Contains xs x
-contains_at xs k x e = (k, slice_get_within xs k x e, get_or_from_slice_get xs k x x e)
-
-pub place_in : {X : Type 0} (xs : List X) (x : X) → Contains xs x → (k : ℕ) × (slice_get xs k ≡ Some x)
-place_in xs x (k, h, e) = (k, slice_get-get_or xs k x h ∙ ap (λ w. Some w) e)
 
 -- ---- how often
 
@@ -89,7 +82,7 @@ module _ (values : List ℤ) (samples : List Sample) (s : Sample) where
     sample = s;
     there = last_item samples s;
     same = e;
-    none_before = λ i x l there. none x (contains_at samples i x (sym (front_item samples s i l) ∙ there));
+    none_before = λ i x l there. none x (contains_from_place samples i x (sym (front_item samples s i l) ∙ there));
   }
 
 -- values have one first place, and a place is the first of one list of values

@@ -2,7 +2,7 @@
 use Rattle.std.specs.Prelude.{◌≡◌, ℕ, ◌+◌, ◌%◌, ◌^◌, ◌<◌, ◌≤◌, ℤ, List, length, Result, Ok, Err, Some, slice_get}
 use Rattle.std.specs.declared.alloc.Global.{Global}
 use Rattle.std.specs.declared.vec.Vec.{Vec}
-use Rattle.boc_program.specs.declared.limits.TheConstants.{MOST_RUNNERS}
+use Rattle.boc_program.specs.declared.limits.TheConstants.{MOST_RUNNERS, MOST_RUNS}
 use Rattle.boc_program.specs.declared.program.Program.{Program}
 use Rattle.boc_plans.specs.declared.sharing.Sharing.TheVariants.{Exclusive}
 use Rattle.boc_plans.specs.Greedy.{IsSpan}
@@ -13,7 +13,6 @@ use Rattle.boc_draws.specs.declared.fault.DrawFault.TheVariants as faults
 use Rattle.boc_draws.specs.declared.way.Way.{Way}
 use Rattle.boc_draws.specs.Draws.{IsDraw}
 use Rattle.boc_outcomes.specs.declared.asked.Asked.{Asked}
-use Rattle.boc_outcomes.specs.declared.asked.TheConstants.{MOST_RUNS}
 use Rattle.boc_outcomes.specs.declared.sampling.Sampled.{Sampled}
 
 -- what one draw came to: the values of the cowns at its end, how many rows it has, and the span of these as cowns are exclusive

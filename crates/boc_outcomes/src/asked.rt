@@ -1,13 +1,10 @@
-//! What is asked of draws.
+//! What draws are requested.
 
 ghost use Rattle.std.specs.Prelude.{◌≡◌};
 
 use boc_draws::Way;
 
-/// The most draws.
-pub const MOST_RUNS: u32 = 1_000_000;
-
-/// So many draws, of which the first has this seed and each other one the next, by so many workers, of which the one that moves next
+/// The given number of draws, of which the first has this seed and each other one the next, by the given number of workers, of which the one that moves next
 /// is picked in this way.
 #[derive(Clone, Copy, PartialEq, Eq, Debug)]
 pub struct Asked {
@@ -22,7 +19,7 @@ pub struct Asked {
 impl Asked {
     ghost use Rattle.boc_outcomes.specs.Samples.{seed_of};
 
-    /// The seed of the draw of this number, counted from 0. Behind the greatest of 64 bits comes 0.
+    /// Returns the seed of the draw of this number, counted from 0. After the greatest of 64 bits comes 0.
     pub fn seed_of(&self, number: u32) -> u64
         ensures { result ≡ seed_of self.now.seed number }
     {

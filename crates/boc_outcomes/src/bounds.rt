@@ -1,9 +1,9 @@
-//! The least and the greatest of some numbers.
+//! The smallest and the greatest of some numbers.
 
 ghost use Rattle.std.specs.Prelude.{◌≡◌};
 ghost use Rattle.boc_outcomes.specs.Tallies.{widened};
 
-/// The least and the greatest of some numbers.
+/// The smallest and the greatest of some numbers.
 #[derive(Clone, Copy, PartialEq, Eq, Debug)]
 pub struct Bounds {
     pub least: u64,
@@ -13,7 +13,7 @@ pub struct Bounds {
 impl Bounds {
     ghost use Rattle.std.specs.Prelude.{Some, None};
 
-    /// The bounds of this number alone.
+    /// Returns the bounds of this number alone.
     pub fn of(number: u64) -> Bounds
         ensures { result ≡ widened None number }
     {
@@ -23,7 +23,7 @@ impl Bounds {
         }
     }
 
-    /// The bounds of one number more.
+    /// Returns the bounds of one number more.
     pub fn with(self, number: u64) -> Bounds
         ensures { result ≡ widened (Some self) number }
     {
@@ -34,7 +34,7 @@ impl Bounds {
     }
 }
 
-/// The bounds of one number more, where there may be none before it.
+/// Returns the bounds of one number more, where there may be none before it.
 pub(crate) fn widen(bounds: Option<Bounds>, number: u64) -> Bounds
     ensures { result ≡ widened bounds number }
 {

@@ -12,11 +12,11 @@ use boc_registers::compiled::CompiledProgram;
 use std::alloc::Global;
 use std::thread::Threads;
 
-// After so many draws, which threads share out, what they came to is added to the tally, and it is told how far the draws are.
+// After this many draws, which threads share out, what they reached is added to the tally, and it is reported how far the draws are.
 const ROUND: u32 = 2_048;
 
-/// The ends that a program comes to in so many draws: the most frequent first, and of those that are as frequent the one that came first.
-/// After each round of draws it is told how many of them are done. Where a draw has no room for a behaviour, that is the answer.
+/// Returns the ends that a program reaches in the given number of draws: the most frequent first, and of those that are as frequent the one that came first.
+/// After each round of draws it is reported how many of them are done. Where a draw has no space for a behaviour, that is the answer.
 ///
 /// Threads share out the draws. Each takes as much memory as a run, and what is kept grows with the number of different ends.
 pub fn outcomes_of(

@@ -1,9 +1,10 @@
-// What one draw comes to, and what those of a round come to.
+// What one draw ends with, and what those of a round end with.
 
 ghost use Rattle.std.specs.Prelude.{◌≤◌};
 ghost use Rattle.boc_outcomes.specs.Samples.{IsAsked, IsRound, IsSampled};
 
 use crate::asked::Asked;
+use boc_dispatch::Tell;
 use boc_draws::{DrawFault, draw};
 use boc_order::waits_and_plan;
 use boc_plans::sharing::{SeenRows, Sharing};
@@ -13,7 +14,7 @@ use rayon::prelude::*;
 use std::alloc::Global;
 use std::thread::Threads;
 
-/// What one draw came to.
+/// What one draw ended with.
 #[derive(Drop)]
 pub(crate) struct Sampled {
     /// The values of the cowns at the end.
@@ -24,7 +25,7 @@ pub(crate) struct Sampled {
     pub span: u64,
 }
 
-// What the draw of this number comes to.
+// Returns what the draw of this number ends with.
 fn draw_sample(
     alloc: Global,
     program: &CompiledProgram<'_>,
@@ -40,6 +41,7 @@ fn draw_sample(
         asked.workers,
         asked.way,
         asked.seed_of(number),
+        Tell::Nothing,
         &mut Silent,
     )?;
     let rows = SeenRows::new(drawn.record.rows(), Sharing::Exclusive);
@@ -51,7 +53,7 @@ fn draw_sample(
     })
 }
 
-/// What the draws from one number on, up to another one, come to, in their order. Threads share them out.
+/// Returns what the draws from one number on, up to another one, end with, in their order. Threads share them out.
 pub(crate) fn sampled_between(
     rt: &(impl Threads + Sync),
     alloc: Global,

@@ -3,7 +3,7 @@
 ghost use Rattle.std.specs.Prelude.{◌≡◌, ℕ, ◌+◌, ◌<◌, ◌≤◌, List, [], ◌∷◌, ◌++◌, length, map, Some};
 ghost use Rattle.std.specs.Prelude.{IsSome, MatchOption, OnOk};
 ghost use Rattle.std.specs.List.{Contains};
-ghost use Rattle.boc_outcomes.specs.declared.asked.TheConstants.{MOST_RUNS};
+ghost use Rattle.boc_program.specs.declared.limits.TheConstants.{MOST_RUNS};
 ghost use Rattle.boc_outcomes.specs.Samples.{Sample, sample_of};
 ghost use Rattle.boc_outcomes.specs.Tallies.{ArePlaces, HasOutcomes, IsTally, NoneHas, StandsAt, Tallies, widened};
 
@@ -14,7 +14,7 @@ use std::alloc::{AllocError, Global};
 use std::cmp::Reverse;
 use std::collections::BTreeMap;
 
-/// An end that a program came to.
+/// An end that a program reached.
 #[derive(Drop, Debug)]
 pub struct Outcome {
     /// The values of the cowns.
@@ -25,21 +25,21 @@ pub struct Outcome {
     pub first: u32,
     /// The seed of the first of them.
     pub seed: u64,
-    /// The least and the greatest of their spans, as cowns are exclusive.
+    /// The smallest and the greatest of their spans, as cowns are exclusive.
     pub spans: Bounds,
 }
 
-/// The ends that a program came to in many runs, the most frequent first, and of those that are as frequent the one that came first.
+/// The ends that a program reached in many runs, the most frequent first, and of those that are as frequent the one that came first.
 #[derive(Drop, Debug)]
 pub struct Outcomes {
-    /// The least and the greatest number of rows of a run.
+    /// The smallest and the greatest number of rows of a run.
     pub rows: Bounds,
-    /// The least and the greatest span of a run, as cowns are exclusive.
+    /// The smallest and the greatest span of a run, as cowns are exclusive.
     pub spans: Bounds,
     pub all: Vec<Outcome>,
 }
 
-/// The ends so far, in the order in which they came, and the place at which those with the same values stand.
+/// The ends so far, in the order in which they came, and the place at which those with the same values are.
 #[derive(Drop)]
 pub(crate) struct Tally {
     rows: Option<Bounds>,
@@ -60,7 +60,7 @@ impl Outcome {
 }
 
 impl Tally {
-    /// No run is counted.
+    /// Makes a tally in which no run is counted.
     pub fn new(alloc: Global) -> Tally
         ensures { (seed : ℕ) → Tallies seed [] result }
     {
@@ -72,7 +72,7 @@ impl Tally {
         }
     }
 
-    // The place of the outcome that has the values of this sample, if there is one.
+    // Returns the place of the outcome that has the values of this sample, if there is one.
     fn place_of(&self, sampled: &Sampled) -> Option<usize>
         requires { ArePlaces self.now.all.items self.now.places }
         ensures { MatchOption result (NoneHas self.now.all.items sampled.now.values.items) (StandsAt self.now.all.items sampled.now.values.items) }
@@ -119,7 +119,7 @@ impl Tally {
         }
     }
 
-    // Adds what the draw of this number came to.
+    // Adds what the draw of this number ended with.
     fn add(
         &mut self,
         alloc: Global,
@@ -137,7 +137,7 @@ impl Tally {
         self.count(alloc, asked, number, sampled)
     }
 
-    /// Adds what the draws from this number on came to, in their order. `AllocError` says that memory was refused.
+    /// Adds what the draws from this number on ended with, in their order. `AllocError` says that memory was refused.
     pub fn add_all(
         &mut self,
         alloc: Global,
@@ -156,7 +156,7 @@ impl Tally {
         Ok(())
     }
 
-    /// The outcomes in their order, where a run is counted. It takes no memory.
+    /// Returns the outcomes in their order, where a run is counted. It takes no memory.
     pub fn in_order(self) -> Outcomes
         requires rows { IsSome self.rows }
         requires spans { IsSome self.spans }

@@ -30,6 +30,11 @@ abbrev pub noted_after : Turn → Option RunFault
 noted_after (turns.Refused refusal) = Some (fault_of refusal)
 noted_after _ = None
 
+-- the fault that is noted where there is none yet, beside this one
+abbrev pub some_or : Option RunFault → RunFault → Option RunFault
+some_or None other = Some other
+some_or (Some fault) other = Some fault
+
 -- the faults that a worker or its crew may note: memory, a thread that could not be started, and, of a gate that is not
 -- always on, that it stopped a worker
 abbrev pub MayNote : Type 0 → RunFault → Type 0
@@ -38,7 +43,7 @@ MayNote always_on faults.NoThread = Unit {0}
 MayNote always_on faults.Held = always_on → ⊥
 MayNote always_on _ = ⊥
 
--- some row's next wish is due, and there is no room for it
+-- some row's next wish is due, and there is no space for it
 abbrev pub IsAtLimit : Underway → Type 0
 IsAtLimit u = ∥ ((row : ℕ) × HasNoRoom u (Some row)) ∥₁
 
@@ -46,7 +51,7 @@ IsAtLimit u = ∥ ((row : ℕ) × HasNoRoom u (Some row)) ∥₁
 abbrev pub IsReached : Underway → Type 0
 IsReached u = ∥ Reaches u.program (opening_state u.program) u.state ∥₁
 
--- some steps lead from the opening state of the program to one in which some row's next wish is due, and there is no room for it
+-- some steps lead from the opening state of the program to one in which some row's next wish is due, and there is no space for it
 pub record CanReachLimit (p : Program) : Type 0 where
   pub state : State
   pub reached : ∥ Reaches p (opening_state p) state ∥₁

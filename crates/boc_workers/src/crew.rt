@@ -6,7 +6,7 @@ ghost use Rattle.boc_runs.specs.Records.{IsRecordOf};
 ghost use Rattle.boc_runs.specs.Run.{config_of};
 ghost use Rattle.boc_runs.specs.machine.AlongRows.{EndsSerially, cowns_of_rows, steps_of_rows};
 ghost use Rattle.boc_workers.specs.Noting.{CanReachLimit, MayNote};
-ghost use Rattle.boc_workers.specs.Telling.{AreRight};
+ghost use Rattle.boc_eval.specs.Instances.{AreRight};
 ghost use Rattle.boc_workers.specs.declared.fault.RunFault.TheVariants as faults;
 
 use crate::fault::RunFault;
@@ -14,7 +14,8 @@ use crate::gate::{Gate, Go};
 use crate::made::Made;
 use crate::shared::Shared;
 use crate::waiters::{Call, Waiters};
-use boc_dispatch::{Step, ToldRow, Turn, Worker};
+use boc_dispatch::{Step, Tell, Turn, Worker};
+use boc_eval::ToldRow;
 use boc_program::program::Program;
 use boc_registers::compiled::CompiledProgram;
 use boc_runs::record::Record;
@@ -27,15 +28,14 @@ use std::sync::{Condvar, Mutex, MutexGuard, Wait};
 use std::thread;
 use std::thread::{Builder, Scope, Threads};
 
-/// The record of a run, what is told of rows that ended by a fault, and how many steps each worker made.
+/// The record of a run, what is reported of its rows, and how many steps each worker made.
 #[derive(Drop)]
 pub struct RunAnswer {
     pub record: Record,
-    /// Of rows that ended by a fault, those with the least numbers, in no order. A clause says that each of them is what is told of it; which rows are told of
-    /// nothing else tells.
+    /// What rows are, in the order in which they ended. A clause says that each of them is what is reported of it; no clause says which rows are reported.
     pub told: Vec<ToldRow>,
     /// The steps of each worker at the place of its number, by which the gate is asked. Clauses say how many workers there
-    /// are, and what their steps come to together; which of them made which step nothing else tells.
+    /// are, and what their steps add up to; nothing else says which of them made which step.
     pub made: Vec<u64>,
 }
 
@@ -48,14 +48,15 @@ const TRIES: [u32; 8] = [16, 32, 64, 128, 256, 256, 256, 256];
 // How long a worker looks for what it waits for before it sleeps, in pauses.
 const LOOKS: u32 = 500;
 
-/// Runs a program by so many workers, each in a thread of its own. There is no record after a fault. Of several faults the
+/// Runs a program on the given number of workers, each in a thread of its own. There is no record after a fault. Of several faults the
 /// one that was noted first is answered; but that the program is a stranger comes before it, and that the run is
-/// unfinished after it.
+/// unfinished after it. `tell` says which rows are reported.
 pub fn run<R: Threads + Wait + Sync, G: Gate>(
     rt: &R,
     alloc: Global,
     program: &Program,
     workers: u32,
+    tell: Tell,
     gate: &G,
 ) -> Result<RunAnswer, RunFault>
     requires { (1 ≤ workers) × (workers ≤ MOST_RUNNERS) }
@@ -68,16 +69,17 @@ pub fn run<R: Threads + Wait + Sync, G: Gate>(
     ensures behaviours { IfErr result (λ e. e ≡ faults.Behaviours → CanReachLimit program.now) }
 {
     let blank = Blank::new(u64::from(workers));
-    run_by::<Brand, G, R>(rt, alloc, blank, program, workers, gate, STACK)
+    run_by::<Brand, G, R>(rt, alloc, blank, program, workers, tell, gate, STACK)
 }
 
-// As `run`, for the ledger of this blank, and with stacks of so many bytes.
+// Runs as `run` does, for the ledger of this blank, and with stacks of the given number of bytes.
 pub(crate) fn run_by<L: Ledger + Send + Sync, G: Gate, R: Threads + Wait + Sync>(
     rt: &R,
     alloc: Global,
     blank: Blank,
     program: &Program,
     workers: u32,
+    tell: Tell,
     gate: &G,
     stack: usize,
 ) -> Result<RunAnswer, RunFault>
@@ -96,7 +98,7 @@ pub(crate) fn run_by<L: Ledger + Send + Sync, G: Gate, R: Threads + Wait + Sync>
     let Ok(compiled) = CompiledProgram::new(alloc, program) else {
         return Err(RunFault::Memory);
     };
-    let Ok(shared) = Shared::new(alloc, &compiled, book) else {
+    let Ok(shared) = Shared::new(alloc, &compiled, book, tell) else {
         return Err(RunFault::Memory);
     };
     let hall = Hall {
@@ -142,7 +144,7 @@ struct Hall<'a, 'g, 'r, L: Ledger, G: Gate, R> {
     stack: usize,
 }
 
-// What the workers made, with the whole ledger, once all of them have ended.
+// Returns what the workers made, with the whole ledger, once all of them have ended.
 fn staffed<L: Ledger + Send + Sync, G: Gate, R: Threads + Wait + Sync>(
     hall: &Hall<'_, '_, '_, L, G, R>,
     rest: Share<L>,
@@ -207,7 +209,7 @@ fn employ<'s, E, L: Ledger + Send + Sync, G: Gate, R: Threads + Wait + Sync>(
 }
 
 impl<'a, 'g, 'r, L: Ledger, G: Gate, R: Wait> Hall<'a, 'g, 'r, L, G, R> {
-    // The work of one worker, until the run is quiet or a fault is noted.
+    // Does the work of one worker, until the run is quiet or a fault is noted.
     fn work(&self, number: u32, made: Made<L>) -> Made<L> {
         let mut made = made;
         let mut worker = Worker::new(number);
@@ -232,7 +234,7 @@ impl<'a, 'g, 'r, L: Ledger, G: Gate, R: Wait> Hall<'a, 'g, 'r, L, G, R> {
         made
     }
 
-    // The next turn of a worker that isn't to wait for others.
+    // Makes the next turn of a worker that isn't to wait for others.
     fn turn(&self, worker: &mut Worker<'a>, made: &mut Made<L>) -> Option<Turn> {
         let waiters = &self.waiters;
         let mut shared = self.enter();
@@ -256,7 +258,7 @@ impl<'a, 'g, 'r, L: Ledger, G: Gate, R: Wait> Hall<'a, 'g, 'r, L, G, R> {
         None
     }
 
-    // The lock. For a short while it is tried at growing distances: who unlocks it then has nobody to wake.
+    // Takes the lock. For a short while it is tried at growing distances: a worker that unlocks it then has none to wake.
     fn enter(&self) -> MutexGuard<'_, Shared<'a, 'g, L, G>> {
         for pauses in &TRIES {
             if let Some(shared) = self.lock.try_lock() {
@@ -318,7 +320,7 @@ impl<'a, 'g, 'r, L: Ledger, G: Gate, R: Wait> Hall<'a, 'g, 'r, L, G, R> {
         }
     }
 
-    // What the gate says to a worker that made this step.
+    // Returns what the gate says to a worker that made this step.
     fn passed(&self, worker: u32, row: u32, step: Step) -> Go
         ensures { G.always_on → result ≡ Go.On }
     {

@@ -3,7 +3,7 @@
 use boc_program::limits::MOST_ROWS;
 use thiserror::Error;
 
-// So many are named in the text of a fault.
+// The text of a fault names this number.
 const _: () = prove!(MOST_ROWS == 65_535);
 
 /// Why a run gives no record. The numbers 1 to 6 stand for these faults in this order.
@@ -21,7 +21,7 @@ pub enum RunFault {
     /// A thread could not be started.
     #[error("a thread could not be started")]
     NoThread,
-    /// The dispatcher doesn't know what a worker came with, or its program isn't the one that was handed in.
+    /// The dispatcher doesn't know what a worker came with, or its program isn't the one that was passed.
     #[error("the dispatcher doesn't know what a worker came with")]
     Stranger,
     /// All workers have ended, and some behaviour isn't gone yet.

@@ -15,7 +15,7 @@ pub enum Go {
 
 /// Is asked by each worker before it runs a body, and after each of its steps. The lock is free then.
 pub trait Gate: Sync {
-    // A gate whose type has this fact stops nobody.
+    // A gate whose type has this fact stops no worker.
     ghost always_on: { Type 0 };
 
     /// May the worker run the body of this row, which it has just started?

@@ -7,7 +7,6 @@ mod fault;
 mod gate;
 mod made;
 mod shared;
-mod told;
 mod waiters;
 
 pub use crew::{RunAnswer, run};
@@ -15,4 +14,3 @@ pub use fault::RunFault;
 pub use gate::{Gate, Go, OpenGate};
 pub use made::Made;
 pub use shared::Shared;
-pub use told::MOST_TOLD;

@@ -14,7 +14,7 @@ pub struct Made<L: Ledger> {
 }
 
 impl<L: Ledger> Made<L> {
-    /// No step was made yet.
+    /// Returns a worker's count of no steps, with its share.
     pub fn new(share: Share<L>) -> Made<L>
         requires { (share.parts ≡ 1) × (share.amount ≡ 0) }
         ensures { result.count ≡ 0 }
@@ -22,7 +22,7 @@ impl<L: Ledger> Made<L> {
         Made { count: 0, share }
     }
 
-    /// How many steps were made.
+    /// Returns how many steps were made.
     pub fn count(&self) -> u64
         ensures { result ≡ self.now.count }
     {
@@ -41,7 +41,7 @@ impl<L: Ledger> Made<L> {
         *count += 1;
     }
 
-    // The count, and the share.
+    // Returns the count, and the share.
     pub(crate) fn into_parts(self) -> (u64, Share<L>)
         ensures parts { result.1.parts ≡ 1 }
         ensures amount { result.1.amount ≡ result.0 }

@@ -1,101 +1,114 @@
-// What lies under the lock.
+// What the lock protects.
 
-ghost use Rattle.std.specs.Prelude.{◌≡◌, ◌≢◌, ◌+◌, ◌≤◌, ◌↔◌, [], false, IfSome, IfNone, None, Some, IfOk, IfErr, IsOk, IsSome, IsErrOf, sum, vec_capacity};
+ghost use Rattle.std.specs.Prelude.{◌≡◌, ◌≢◌, ◌+◌, ◌≤◌, ◌↔◌, [], false, IfSome, IfNone, None, Some, IfOk, IfErr, IsOk, IsSome, IsErrOf, OnErr, OnOk, sum};
 ghost use Rattle.boc_runs.specs.Records.{IsRecordOf};
 ghost use Rattle.boc_runs.specs.Run.{config_of};
 ghost use Rattle.boc_runs.specs.machine.AlongRows.{EndsSerially, cowns_of_rows, steps_of_rows};
 ghost use Rattle.boc_runs.specs.machine.Steps.{members, opening_state};
 ghost use Rattle.boc_dispatch.specs.Working.{Works};
-ghost use Rattle.boc_workers.specs.Noting.{CanReachLimit, IsAtLimit, IsReached, MayNote, fault_of, noted_after, steps_made};
-ghost use Rattle.boc_workers.specs.Telling.{AreRight, HasTold};
-ghost use Rattle.boc_workers.specs.declared.told.TheConstants.{MOST_TOLD};
+ghost use Rattle.boc_workers.specs.Noting.{CanReachLimit, IsAtLimit, IsReached, MayNote, fault_of, noted_after, some_or, steps_made};
+ghost use Rattle.boc_dispatch.specs.Told.{HasTold};
+ghost use Rattle.boc_eval.specs.Instances.{AreRight};
 ghost use Rattle.boc_workers.specs.declared.fault.RunFault.TheVariants as faults;
 
 use crate::crew::RunAnswer;
 use crate::fault::RunFault;
 use crate::gate::Gate;
 use crate::made::Made;
-use crate::told::{MOST_TOLD, keep};
-use boc_dispatch::{Dispatcher, OpenFault, Refusal, ToldRow, Turn, Worker};
+use boc_dispatch::{Dispatcher, OpenFault, Refusal, Tell, Turn, Worker};
+use boc_eval::ToldRow;
 use boc_program::program::Program;
 use boc_registers::compiled::CompiledProgram;
 use std::alloc::{AllocError, Global};
 use std::marker::PhantomData;
 use std::sync::ledger::{Book, Ledger, Share};
 
-/// A dispatcher, the book of its steps, what is told of rows that ended by a fault, and the first fault that was noted.
+/// A dispatcher, the book of its steps, what is reported of rows that ended, and the first fault that was noted.
 #[derive(Drop)]
 pub struct Shared<'a, 'g, L: Ledger, G: Gate> {
     dispatcher: Dispatcher<'a>,
     book: Book<L>,
+    tell: Tell,
     told: Vec<ToldRow>,
     fault: Option<RunFault>,
     gate: PhantomData<&'g G>,
     pub ghost reached: { IsReached dispatcher },
     pub ghost counted: { book.total ≡ dispatcher.state.steps },
     pub ghost are_right: { AreRight (members dispatcher.program dispatcher.state) told.items },
-    pub ghost room: { MOST_TOLD ≤ vec_capacity told },
     pub ghost at_limit: { fault ≡ Some faults.Behaviours → IsAtLimit dispatcher },
     pub ghost not_held: { G.always_on → fault ≢ Some faults.Held },
 }
 
-// The row whose end by a fault a worker has in hand, if it has one, is told of beside others. What is told takes much room, so the function that makes it
-// is not put into a turn, which would clear that room each time.
+// Appends the row whose end a worker has in hand to those reported, if it has to be reported. What is reported takes much memory, so the function that makes
+// it is not put into a turn, which would clear that memory each time.
 #[inline(always)]
-fn tell<'a>(told: &mut Vec<ToldRow>, dispatcher: &Dispatcher<'a>, worker: &Worker<'a>)
-    requires { MOST_TOLD ≤ vec_capacity told.old }
-    ensures tells { HasTold dispatcher.now worker.now.hand told.old.items told.new.items }
-    ensures room { vec_capacity told.new ≡ vec_capacity told.old }
+fn tell_ending<'a>(
+    told: &mut Vec<ToldRow>,
+    tell: Tell,
+    dispatcher: &Dispatcher<'a>,
+    worker: &Worker<'a>,
+) -> Result<(), AllocError>
+    ensures ok { OnOk result (HasTold tell dispatcher.now worker.now.hand told.old.items told.new.items) }
+    ensures err { OnErr result (told.new.items ≡ told.old.items) }
 {
-    if worker.ends_by_fault() {
-        tell_row(told, dispatcher, worker);
+    if worker.tells(tell) {
+        tell_row(told, tell, dispatcher, worker)
+    } else {
+        Ok(())
     }
 }
 
 #[inline(never)]
-fn tell_row<'a>(told: &mut Vec<ToldRow>, dispatcher: &Dispatcher<'a>, worker: &Worker<'a>)
-    requires { MOST_TOLD ≤ vec_capacity told.old }
-    ensures tells { HasTold dispatcher.now worker.now.hand told.old.items told.new.items }
-    ensures room { vec_capacity told.new ≡ vec_capacity told.old }
+fn tell_row<'a>(
+    told: &mut Vec<ToldRow>,
+    tell: Tell,
+    dispatcher: &Dispatcher<'a>,
+    worker: &Worker<'a>,
+) -> Result<(), AllocError>
+    ensures ok { OnOk result (HasTold tell dispatcher.now worker.now.hand told.old.items told.new.items) }
+    ensures err { OnErr result (told.new.items ≡ told.old.items) }
 {
-    keep(told, worker.ending(dispatcher));
+    worker.tell_ending(dispatcher, tell, told)
 }
 
 impl<'a, 'g, L: Ledger, G: Gate> Shared<'a, 'g, L, G> {
-    /// A dispatcher of the program in its opening state, with the book of its steps, and no fault noted. `AllocError` says
+    /// Returns a dispatcher of the program in its opening state, with the book of its steps, and no fault noted. `AllocError` says
     /// that memory was refused.
     pub fn new(
         alloc: Global,
         program: &'a CompiledProgram<'a>,
         book: Book<L>,
+        tell: Tell,
     ) -> Result<Shared<'a, 'g, L, G>, AllocError>
         requires { book.total ≡ 0 }
         ensures dispatcher { IfOk result (λ s. s.dispatcher ≡ record { program = program.now; state = opening_state program.now }) }
+        ensures tell { IfOk result (λ s. s.tell ≡ tell) }
         ensures told { IfOk result (λ s. s.told.items ≡ []) }
         ensures fault { IfOk result (λ s. s.fault ≡ None) }
     {
         let dispatcher = Dispatcher::new(alloc, program)?;
-        let told = Vec::with_capacity(alloc, MOST_TOLD)?;
         Ok(Shared {
             dispatcher,
             book,
-            told,
+            tell,
+            told: Vec::new(alloc),
             fault: None,
             gate: PhantomData,
         })
     }
 
-    /// One turn of a worker, unless a fault is noted. First the row whose end by a fault it has in hand, if it has one, is told of beside others. Where the
-    /// call is refused, the fault is noted.
-    #[tactic(auto, using(crate::proofs::Reached::reached_on, crate::proofs::Reached::one_more_fits, crate::proofs::Telling::right_on))]
+    /// Makes one turn of a worker, unless a fault is noted. First the row whose end it has in hand is appended to those reported, if it has to be reported.
+    /// Where memory for that or the call is refused, the fault is noted.
+    #[tactic(auto, using(crate::proofs::Reached::reached_on, crate::proofs::Reached::one_more_fits, boc_dispatch::proofs::Telling::right_on))]
     pub fn turn(&mut self, worker: &mut Worker<'a>, made: &mut Made<L>) -> Option<Turn>
         ensures works { IfSome result (λ t. Works self.old.dispatcher worker.old.hand t self.new.dispatcher worker.new.hand) }
         ensures number { worker.new.number ≡ worker.old.number }
         ensures counted { IfSome result (λ t. made.new.count ≡ made.old.count + steps_made t) }
-        ensures told { IsSome result → HasTold self.old.dispatcher worker.old.hand self.old.told.items self.new.told.items }
+        ensures tell { self.new.tell ≡ self.old.tell }
+        ensures told { IsSome result → HasTold self.old.tell self.old.dispatcher worker.old.hand self.old.told.items self.new.told.items }
         ensures noted { IfSome result (λ t. (self.old.fault ≡ None) × (self.new.fault ≡ noted_after t)) }
-        ensures none { IfNone result ((self.old.fault ≢ None) × (self.new.dispatcher ≡ self.old.dispatcher) × (self.new.fault ≡ self.old.fault)
-            × (self.new.told.items ≡ self.old.told.items) × (worker.new ≡ worker.old) × (made.new.count ≡ made.old.count)) }
+        ensures none { IfNone result ((self.new.dispatcher ≡ self.old.dispatcher) × (self.new.told.items ≡ self.old.told.items) × (worker.new ≡ worker.old)
+            × (made.new.count ≡ made.old.count) × (self.new.fault ≡ some_or self.old.fault faults.Memory)) }
     {
         if self.fault.is_some() {
             return None;
@@ -103,11 +116,15 @@ impl<'a, 'g, L: Ledger, G: Gate> Shared<'a, 'g, L, G> {
         let Shared {
             dispatcher,
             book,
+            tell,
             told,
             fault,
             gate: _,
         } = self;
-        tell(told, dispatcher, worker);
+        let Ok(()) = tell_ending(told, *tell, dispatcher, worker) else {
+            *fault = Some(RunFault::Memory);
+            return None;
+        };
         let turn = worker.turn(dispatcher);
         match turn {
             Turn::Moved(_) => made.enter(book),
@@ -117,7 +134,7 @@ impl<'a, 'g, L: Ledger, G: Gate> Shared<'a, 'g, L, G> {
         Some(turn)
     }
 
-    /// A row is ready to be started.
+    /// Returns whether a row is ready to be started.
     pub fn has_ready(&self) -> bool
         ensures { (result ≡ false) ↔ (self.now.dispatcher.state.ready ≡ []) }
     {
@@ -130,7 +147,7 @@ impl<'a, 'g, L: Ledger, G: Gate> Shared<'a, 'g, L, G> {
         ensures first { self.old.fault ≢ None → self.new.fault ≡ self.old.fault }
         ensures noted { self.old.fault ≡ None → self.new.fault ≡ Some fault }
         ensures dispatcher { self.new.dispatcher ≡ self.old.dispatcher }
-        ensures told { self.new.told.items ≡ self.old.told.items }
+        ensures told { (self.new.tell ≡ self.old.tell) × (self.new.told.items ≡ self.old.told.items) }
         ensures book { self.new.book.total ≡ self.old.book.total }
     {
         if self.fault.is_none() {
@@ -138,10 +155,10 @@ impl<'a, 'g, L: Ledger, G: Gate> Shared<'a, 'g, L, G> {
         }
     }
 
-    /// The answer of a run of a program whose workers have ended, with how many steps each of them made and the whole ledger; or
+    /// Returns the answer of a run of a program whose workers have ended, with how many steps each of them made and the whole ledger; or
     /// with why they were not all started.
     ///
-    /// A dispatcher of another program is told as a stranger, whatever was noted. Else the fault that was noted is answered, then
+    /// A dispatcher of another program is reported as a stranger, whatever was noted. Else the fault that was noted is answered, then
     /// that of the workers; and where there is none and some behaviour isn't gone yet, that the run is unfinished.
     pub fn close(
         self,
@@ -164,6 +181,7 @@ impl<'a, 'g, L: Ledger, G: Gate> Shared<'a, 'g, L, G> {
         let Shared {
             dispatcher,
             mut book,
+            tell: _,
             told,
             fault,
             gate: _,

@@ -1,4 +1,4 @@
-// Who waits, and whom a step may let go on. Clauses say who is called for which counts; that the counts are right, and that who is
+// Which workers wait, and which of them a step may let go on. Clauses say which are called for which counts; that the counts are right, and that who is
 // called comes, no clause says.
 
 ghost use Rattle.std.specs.Prelude.{◌≡◌, ◌<◌, true, false};
@@ -20,14 +20,14 @@ pub(crate) enum Call {
     Lookers,
     /// One who sleeps until a row is ready.
     Sleeper,
-    /// All who wait, since the run is over.
+    /// All that wait, since the run has ended.
     Everybody,
 }
 
 /// How many workers wait in each way. The counts change and are read under the lock alone.
 #[derive(Drop)]
 pub(crate) struct Waiters {
-    /// Until a request before their own is flagged, or one behind it is settled.
+    /// Until a request before their own is flagged, or one after it is settled.
     pub blocked: AtomicU64,
     /// Until a row is ready, and look for it.
     pub looking: AtomicU64,
@@ -36,7 +36,7 @@ pub(crate) struct Waiters {
 }
 
 impl Waiters {
-    /// Nobody waits.
+    /// Returns the waiters of a run in which no worker waits.
     pub(crate) fn new() -> Waiters {
         Waiters {
             blocked: AtomicU64::new(0),
@@ -45,9 +45,9 @@ impl Waiters {
         }
     }
 
-    /// Who is to be called after a turn. A flag lets the request behind settle, and a settle lets the one before leave. Rows
-    /// become ready by Own and by Pass; where one is left at a Start, a further worker can start it. Whoever finds that the
-    /// run is over tells all others.
+    /// Returns which workers are called after a turn. A flag lets the request after it settle, and a settle lets the one before leave. Rows
+    /// become ready by Own and by Pass; where one is left at a Start, a further worker can start it. A worker that finds that the
+    /// run has ended calls all others.
     pub(crate) fn call_after<L: Ledger, G: Gate>(
         &self,
         shared: &Shared<'_, '_, L, G>,
@@ -70,7 +70,7 @@ impl Waiters {
     }
 }
 
-// Who is to be called where a request was settled or flagged, and so many are blocked.
+// Returns which workers are called where a request was settled or flagged, and `blocked` are blocked.
 fn call_for_requests(blocked: u64) -> Call
     ensures some { 0 < blocked → result ≡ Call.Blocked }
     ensures none { blocked ≡ 0 → result ≡ Call.Nobody }
@@ -82,7 +82,7 @@ fn call_for_requests(blocked: u64) -> Call
     }
 }
 
-// Who is to be called for the first of the ready rows, where so many look for one and so many sleep. Who looks for a row comes by
+// Returns which workers are called for the first of the ready rows, where `looking` look for one and `sleeping` sleep. A worker that looks for a row comes by
 // itself.
 fn call_for_row(has_ready: bool, looking: u64, sleeping: u64) -> Call
     ensures not_ready { has_ready ≡ false → result ≡ Call.Nobody }

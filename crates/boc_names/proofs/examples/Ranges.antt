@@ -1,4 +1,4 @@
--- The text of a behaviour's cowns tried on a bank, and on cowns that must not stand together.
+-- The text of a behaviour's cowns tried on a bank, and on cowns that must not be put together.
 use Rattle.std.proofs.Common.{◌≡◌, ◌∙◌, Bool, true, false, List, [], ◌∷◌, None, Some, pos, flat_map, refl, codes, ap}
 use Rattle.std.specs.Fmt.{digits}
 use Rattle.std.specs.Prelude.{cond}

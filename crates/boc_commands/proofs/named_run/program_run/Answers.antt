@@ -10,23 +10,23 @@ use Rattle.boc_commands.proofs.Passed.{passed_on, refused_course}
 use Rattle.boc_commands.proofs.RunNames.{named_few}
 use Rattle.boc_commands.proofs.named_run.program_run.Goals as goal
 
-pub returns-in_err-record : goal.returns-in_err-record
-returns-in_err-record g c =
-    passed_on _ (IsOfRun g.G.Gate.always_on c.args.schedule c.args.text.now) _ _ c.from_residual-in_err-record.ensures.1
-    (refused_course g.G.Gate.always_on c.args.schedule c.args.text.now c.in_ok-program.program c.in_err-record.field-0.0 c.in_ok-program.ensures.0
-    c.in_err-record.ensures.failed)
+pub returns-in_err-run : goal.returns-in_err-run
+returns-in_err-run g c =
+    passed_on _ (IsOfRun g.G.Gate.always_on c.args.schedule c.args.text.now) _ _ c.from_residual-in_err-run.ensures.1
+    (refused_course g.G.Gate.always_on c.args.schedule c.args.text.now c.in_ok-program.program c.in_err-run.field-0.0 c.in_ok-program.ensures.0
+    c.in_err-run.ensures.failed)
 
 pub returns : goal.returns
 returns g c =
     let spelled = c.in_ok-program.ensures.0 in
-    let run : IsRunOf c.in_ok-program.program c.in_ok-record.record = c.in_ok-record.ensures.run in
+    let run : IsRunOf c.in_ok-program.program c.in_ok-run.run'.record = c.in_ok-run.ensures.run in
     let shape = subst IsRows c.into_rows-rows.ensures.value c.as_slice-shape.ensures.shape in
     let named = subst (λ (called : List Text). AreNamesOf c.in_ok-program.program called
-    (config_of c.in_ok-program.program c.in_ok-record.record.events).members c.in_ok-names.names) (c.deref.ensures.value ∙ c.in_ok-defs.ensures)
+    (config_of c.in_ok-program.program c.in_ok-run.run'.record.events).members c.in_ok-names.names) (c.deref.ensures.value ∙ c.in_ok-defs.ensures)
     c.in_ok-names.ensures in
-    let few = named_few c.in_ok-program.program c.in_ok-record.record _ c.in_ok-names.names run.run run.whole shape named in (
+    let few = named_few c.in_ok-program.program c.in_ok-run.run'.record _ c.in_ok-names.names run.run run.whole shape named in (
       record {
-        recorded = c.in_ok-record.record;
+        recorded = c.in_ok-run.run'.record;
         named = record {
           named = record {
             program = c.in_ok-program.program;
@@ -36,7 +36,7 @@ returns g c =
             run = run;
             names_are = named;
           };
-          scheduled = record { program = c.in_ok-program.program; spells = spelled; scheduled = c.in_ok-record.ensures.scheduled };
+          scheduled = record { program = c.in_ok-program.program; spells = spelled; scheduled = c.in_ok-run.ensures.scheduled };
         };
         rows_are = c.into_rows-rows.ensures.value;
         few = subst (λ (rows : List Row). AreFew rows c.in_ok-names.names) (sym c.into_rows-rows.ensures.value) few;

@@ -1,5 +1,7 @@
 use Rattle.std.proofs.Common.{Ok, Err, refl, subst}
 use Rattle.boc_program.specs.declared.program.Program.{Program}
+use Rattle.boc_runs.specs.Run.{config_of}
+use Rattle.boc_eval.specs.Instances.{AreRight}
 use Rattle.boc_draws.specs.declared.fault.DrawFault.TheVariants as faults
 use Rattle.boc_draws.specs.Draws.{IsDraw}
 use Rattle.boc_draws.specs.Ways.{AnswersWay}
@@ -26,7 +28,7 @@ returns-in_err-drawn-clause-failed g c =
     (drawing c.in_ok-way.way
     (subst (λ (p : Program). AnswersWay p c.args.workers c.args.depth (Ok c.in_ok-way.way)) c.in_ok-compiled.ensures c.in_ok-way.ensures)
     (subst (λ (p : Program). IsDraw p c.args.workers c.in_ok-way.way c.args.seed (Err c.in_err-drawn.field-0.0)) c.in_ok-compiled.ensures
-    c.in_err-drawn.ensures))
+    c.in_err-drawn.ensures.draw))
 
 pub returns-clause-drawn : goal.returns-clause-drawn
 returns-clause-drawn g c = record {
@@ -34,6 +36,11 @@ returns-clause-drawn g c = record {
   is_way = subst (λ (p : Program). AnswersWay p c.args.workers c.args.depth (Ok c.in_ok-way.way)) c.in_ok-compiled.ensures c.in_ok-way.ensures;
   drawn = c.in_ok-drawn.drawn;
   is = subst (λ (p : Program). IsDraw p c.args.workers c.in_ok-way.way c.args.seed (Ok c.in_ok-drawn.drawn)) c.in_ok-compiled.ensures
-      c.in_ok-drawn.ensures;
+      c.in_ok-drawn.ensures.draw;
   same = refl;
 }
+
+pub returns-clause-told : goal.returns-clause-told
+returns-clause-told g c =
+    subst (λ (p : Program). AreRight (config_of p c.in_ok-drawn.drawn.record.events).members c.in_ok-drawn.drawn.told.items) c.in_ok-compiled.ensures
+    c.in_ok-drawn.ensures.told

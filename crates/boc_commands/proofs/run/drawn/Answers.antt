@@ -6,7 +6,7 @@ use Rattle.boc_commands.proofs.run.drawn.Goals as goal
 
 pub returns-in-Ok-clause-drawn : goal.returns-in-Ok-clause-drawn
 returns-in-Ok-clause-drawn g c =
-    subst (λ (n : ℕ). IsDrawnBy c.args.program.now n c.args.seed c.args.depth c.in-Ok.record) c.number.ensures.value c.in-Ok.ensures.drawn
+    subst (λ (n : ℕ). IsDrawnBy c.args.program.now n c.args.seed c.args.depth c.in-Ok.made.record) c.number.ensures.value c.in-Ok.ensures.drawn
 
 pub returns-in-Err-Behaviours-clause-failed : goal.returns-in-Err-Behaviours-clause-failed
 returns-in-Err-Behaviours-clause-failed g c =

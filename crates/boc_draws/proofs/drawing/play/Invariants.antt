@@ -1,10 +1,13 @@
 use Rattle.std.proofs.Common.{◌*◌, ◌-◌}
 use Rattle.boc_program.specs.declared.limits.TheConstants.{MOST_ROWS}
+use Rattle.boc_runs.specs.machine.Steps.{members}
+use Rattle.boc_eval.specs.Instances.{AreRight}
 use Rattle.boc_draws.proofs.Playing.{PlaysOn}
 use Rattle.boc_draws.proofs.drawing.play.Given as goal
 
 abbrev pub invariant-turns : goal.invariant-turns
-invariant-turns g l = PlaysOn l.program l.workers l.fn.way l.seed l.core l.crew.items l.picker
+invariant-turns g l =
+    PlaysOn l.program l.workers l.fn.way l.seed l.core l.crew.items l.picker × AreRight (members l.core.program l.core.state) l.told.items
 
 -- how many steps more there may be
 abbrev pub decreases-turns : goal.decreases-turns

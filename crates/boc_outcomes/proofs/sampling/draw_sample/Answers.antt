@@ -16,7 +16,7 @@ returns c =
     record {
       drawn = c.in_ok-drawn.drawn;
       is_draw = subst (λ (seed : ℕ). IsDraw c.args.program.now asked.workers asked.way seed (Ok c.in_ok-drawn.drawn)) c.seed_of.ensures
-          c.in_ok-drawn.ensures;
+          c.in_ok-drawn.ensures.draw;
       values_are = refl;
       rows_are = c.len.ensures.count ∙ ap (λ (l : List Row). length l) same ∙ length-seen Exclusive rows;
       span_is = subst (λ (l : List Row). IsSpan l c.span.result) same

@@ -99,7 +99,7 @@ homes_fit g c = omega (
   c.reserve.ensures.len,
 )
 
--- the table has no more slots than there is room for
+-- the table has no more slots than there is space for
 slots_fit : (g : Over) (c : After-capacity-room g) → length (set (seated g c) c.in_ok-own.own None) ≤ c.next_slot.new.live.capacity
 slots_fit g c = omega (
   arith,

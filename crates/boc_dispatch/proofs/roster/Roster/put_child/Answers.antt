@@ -10,7 +10,7 @@ use Rattle.boc_dispatch.proofs.Seated.{set_back}
 use Rattle.boc_dispatch.proofs.Tables.{live_other, live_changed, live_same}
 use Rattle.boc_dispatch.proofs.roster.Roster.put_child.Goals as goal
 
--- with this table, but for what is at a parent's slot
+-- with this table, except for what is at a parent's slot
 abbrev with_both : Parts → ℕ → List (Option Live) → Option Live → Parts
 with_both d parent table place = record d { live = set table parent place; opened = d.opened + 1; steps = d.steps + 1 }
 

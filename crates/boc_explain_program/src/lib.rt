@@ -10,6 +10,7 @@ mod named;
 mod program;
 mod shaped;
 mod spawning;
+mod spot;
 
 use boc_program::limits::{
     MOST_ARGUMENTS, MOST_COWNS, MOST_DEFS, MOST_HELD, MOST_NODES, MOST_ROWS,

@@ -1,15 +1,15 @@
 // Names that aren't in scope, and names that are taken.
 
+use crate::spot::{Lines, Spot};
 use boc_said::declared::{Declaration, Thing, body_names, declared_as, top_names};
-use boc_said::said::{Part, Said};
+use boc_said::said::Part;
 use boc_said::tokens::Word;
-use boc_said::view::line_number;
 use std::alloc::{AllocError, Global};
 
 /// What a name stands for at a place.
 #[derive(Clone, Copy, PartialEq, Eq)]
 enum Use {
-    /// A def, behind `when`.
+    /// A def, after `when`.
     Def,
     /// A cown of a `when`.
     Cown,
@@ -19,110 +19,87 @@ enum Use {
     Value,
 }
 
-/// Tells of a name that isn't in scope what it is elsewhere.
-pub(crate) fn put_unknown(
+/// Finds what else declares the name at a place: first among the parameters and locals of its body, or else first among the cowns and defs.
+pub(crate) fn other_of<'a>(
     alloc: Global,
-    said: &mut Said,
-    text: &[u8],
-    words: &[Word<'_>],
-    at: usize,
-) -> Result<(), AllocError> {
-    let Some(word) = words.iter().find(|word| word.at == at) else {
-        return Ok(());
-    };
-    let wanted = use_of(words, at);
-    let top = top_names(alloc, words)?;
-    let body = body_names(alloc, words, at)?;
-    let other = declared_as(&top, word.bytes, at).or(declared_as(&body, word.bytes, at));
-    match other {
-        Some(other) => {
-            put_other(said, text, &other, at)?;
-            put_wanted(said, wanted, &other, is_in_main(words, at))
-        }
-        None => {
-            said.line(&[
-                Part::Words(match wanted {
-                    Use::Def => "no def is called ",
-                    Use::Cown => "no cown is called ",
-                    Use::Argument | Use::Value => "no parameter or `let` of this body is called ",
-                }),
-                Part::Quote(word.bytes),
-            ])?;
-            put_undeclared(said, words, word)
-        }
-    }
+    spot: Spot<'a>,
+    body_first: bool,
+) -> Result<Option<Declaration<'a>>, AllocError> {
+    let top = top_names(alloc, spot.words)?;
+    let body = body_names(alloc, spot.words, spot.at)?;
+    let of_top = declared_as(&top, spot.after(0), spot.at);
+    let of_body = declared_as(&body, spot.after(0), spot.at);
+    Ok(if body_first {
+        of_body.or(of_top)
+    } else {
+        of_top.or(of_body)
+    })
 }
 
-// Tells of a name that isn't declared anywhere how a local is, where it is written, or what truth is.
-fn put_undeclared(said: &mut Said, words: &[Word<'_>], word: &Word<'_>) -> Result<(), AllocError> {
-    let before = words.iter().rev().find(|other| other.at < word.at);
-    let behind = words.iter().find(|other| other.at > word.at);
-    let begins = before.is_some_and(|word| word.is(b";") || word.is(b"{") || word.is(b"}"));
-    if begins && behind.is_some_and(|word| word.is(b"=")) {
-        return said.line(&[
-            Part::Words("declare a local with `let "),
-            Part::Bytes(word.bytes),
-            Part::Words(" = ..;`"),
-        ]);
+/// Writes what a name that isn't in scope is elsewhere.
+pub(crate) fn put_unknown(lines: &mut Lines, spot: Spot<'_>) -> Result<(), AllocError> {
+    let wanted = use_of(spot.front);
+    let name = Part::Quote(spot.after(0));
+    let Some(other) = other_of(lines.alloc, spot, false)? else {
+        let words = match wanted {
+            Use::Def => "no def is called {}",
+            Use::Cown => "no cown is called {}",
+            Use::Argument | Use::Value => "no parameter or `let` of this body is called {}",
+        };
+        lines.put(words, &[name])?;
+        return put_undeclared(lines, spot);
+    };
+    let is_behind = other.name.at > spot.at && matches!(other.thing, Thing::Local);
+    let words = if is_behind {
+        "{} is {}, declared only later, on line {}"
+    } else {
+        "{} is {}, declared on line {}"
+    };
+    let called = Part::Words(other.thing.called());
+    lines.put(words, &[name, called, spot.line(other.name.at)])?;
+    lines.words(wanted_words(wanted, other.thing, is_in_main(spot.front)))
+}
+
+// Writes, for a name that isn't declared anywhere, how a local is, where it is written, or what truth is.
+fn put_undeclared(lines: &mut Lines, spot: Spot<'_>) -> Result<(), AllocError> {
+    let begins = matches!(spot.before(0), b";" | b"{" | b"}");
+    if begins && spot.after(1) == b"=".as_slice() {
+        let name = Part::Bytes(spot.after(0));
+        return lines.put("declare a local with `let {} = ..;`", &[name]);
     }
-    match word.bytes {
-        b"true" | b"false" | b"True" | b"False" => said.words(
+    match spot.after(0) {
+        b"true" | b"false" | b"True" | b"False" => lines.words(
             "values are integers: a comparison is 1 if it holds, else 0",
         ),
         _ => Ok(()),
     }
 }
 
-// Tells what a name is declared as.
-fn put_other(
-    said: &mut Said,
-    text: &[u8],
-    other: &Declaration<'_>,
-    at: usize,
-) -> Result<(), AllocError> {
-    let behind = other.name.at > at && matches!(other.thing, Thing::Local);
-    said.line(&[
-        Part::Quote(other.name.bytes),
-        Part::Words(" is "),
-        Part::Words(other.thing.called()),
-        Part::Words(if behind {
-            ", declared only later, on line "
-        } else {
-            ", declared on line "
-        }),
-        Part::Number(line_number(text, other.name.at)),
-    ])
-}
-
-// Tells what is asked for in place of what a name is.
-fn put_wanted(
-    said: &mut Said,
-    wanted: Use,
-    other: &Declaration<'_>,
-    is_main: bool,
-) -> Result<(), AllocError> {
-    let words = match (wanted, other.thing) {
-        (Use::Def, _) => "a `when` takes the name of a def",
-        (Use::Cown, _) => "a `when` takes cowns of the program or cown parameters after its `;`",
-        (Use::Argument | Use::Value, Thing::Cown | Thing::Array) if is_main => {
+// Returns what is wanted instead of what a name is.
+fn wanted_words(wanted: Use, other: Thing, is_main: bool) -> &'static str {
+    let is_cown = matches!(other, Thing::Cown | Thing::Array);
+    match wanted {
+        Use::Def => "a `when` takes the name of a def",
+        Use::Cown => "a `when` takes cowns of the program or cown parameters after its `;`",
+        Use::Argument | Use::Value if is_cown && is_main => {
             "main has no cowns: read and write them in a def that main spawns with `when`"
         }
-        (Use::Argument, Thing::Cown | Thing::Array) => {
+        Use::Argument if is_cown => {
             "a `when` takes numbers before its `;`: a body reads a cown through its parameter"
         }
-        (Use::Value, Thing::Cown | Thing::Array) => {
+        Use::Value if is_cown => {
             "a body reads and writes a cown only through a parameter: pass it in the `when` that spawns the body"
         }
-        (Use::Argument | Use::Value, Thing::Def { .. }) => "only a `when` can name a def",
-        (Use::Argument | Use::Value, _) =>
-            "a `let` is in scope after its statement, until the end of its block",
-    };
-    said.words(words)
+        Use::Argument | Use::Value => match other {
+            Thing::Def { .. } => "only a `when` can name a def",
+            _ => "a `let` is in scope after its statement, until the end of its block",
+        },
+    }
 }
 
-// What the name at a place stands for. It is a cown of a `when` behind the semicolon in its parentheses.
-fn use_of(words: &[Word<'_>], at: usize) -> Use {
-    let mut before = words.iter().rev().skip_while(|word| word.at >= at);
+// Returns what the name after these words stands for. It is a cown of a `when` after the semicolon in its parentheses.
+fn use_of(front: &[Word<'_>]) -> Use {
+    let mut before = front.iter().rev();
     let mut depth: usize = 0;
     let mut behind = false;
     let mut first = true;
@@ -149,45 +126,33 @@ fn use_of(words: &[Word<'_>], at: usize) -> Use {
     Use::Value
 }
 
-// A place stands in the body of main.
-fn is_in_main(words: &[Word<'_>], at: usize) -> bool {
-    let begins = words.iter().rev().find(|word| word.at < at
-        && (word.is(b"def") || word.is(b"main")));
+// Returns whether the place after these words is in the body of main.
+fn is_in_main(front: &[Word<'_>]) -> bool {
+    let begins = front
+        .iter()
+        .rev()
+        .find(|word| matches!(word.bytes, b"def" | b"main"));
     begins.is_some_and(|word| word.is(b"main"))
 }
 
-/// Tells of a name that is taken what has it.
-pub(crate) fn put_taken(
-    alloc: Global,
-    said: &mut Said,
-    text: &[u8],
-    words: &[Word<'_>],
-    at: usize,
-) -> Result<(), AllocError> {
-    let Some(word) = words.iter().find(|word| word.at == at) else {
+/// Writes what has a name that is taken.
+pub(crate) fn put_taken(lines: &mut Lines, spot: Spot<'_>) -> Result<(), AllocError> {
+    let Some(other) = other_of(lines.alloc, spot, false)? else {
         return Ok(());
     };
-    let before = words.iter().rev().find(|word| word.at < at);
-    let declared = match before {
-        Some(before) if before.is(b"cown") => "a cown",
-        Some(before) if before.is(b"def") => "a def",
-        Some(before) if before.is(b"let") => "a `let`",
+    let declared = match spot.before(0) {
+        b"cown" => "a cown",
+        b"def" => "a def",
+        b"let" => "a `let`",
         _ => "a parameter",
     };
-    let top = top_names(alloc, words)?;
-    let body = body_names(alloc, words, at)?;
-    let Some(other) = declared_as(&top, word.bytes, at).or(declared_as(&body, word.bytes, at))
-    else {
-        return Ok(());
-    };
-    said.line(&[
-        Part::Quote(word.bytes),
-        Part::Words(" is "),
-        Part::Words(other.thing.called()),
-        Part::Words(", declared on line "),
-        Part::Number(line_number(text, other.name.at)),
-        Part::Words("; "),
-        Part::Words(declared),
-        Part::Words(" can't have its name"),
-    ])
+    lines.put(
+        "{} is {}, declared on line {}; {} can't have its name",
+        &[
+            Part::Quote(spot.after(0)),
+            Part::Words(other.thing.called()),
+            spot.line(other.name.at),
+            Part::Words(declared),
+        ],
+    )
 }

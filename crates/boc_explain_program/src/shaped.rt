@@ -1,82 +1,65 @@
-// A token that isn't allowed where it stands, or the end of a text.
+// A token that isn't allowed where it is, or the end of a text.
 
-use crate::allowed::{Allowed, allowed_behind, told};
+use crate::allowed::{Allowed, NAME, NUMBER};
 use crate::hint::{is_open, put_hint};
+use crate::spot::{Lines, Spot};
+use boc_reader::Expected;
 use boc_said::place::is_first_word;
-use boc_said::said::{Part, Said};
-use boc_said::tokens::{Word, is_keyword, words_of};
+use boc_said::said::Part;
+use boc_said::tokens::{Word, is_keyword};
 use boc_said::view::{line_number, put_place};
 use std::alloc::{AllocError, Global};
 
-// The most tokens that are told to be allowed.
+// The most tokens that are reported as allowed.
 const MOST_TOLD: usize = 3;
 
-/// Tells what isn't allowed at a place, and what is.
-pub(crate) fn put_unexpected(
-    alloc: Global,
-    said: &mut Said,
-    text: &[u8],
-    at: usize,
-) -> Result<(), AllocError> {
-    let words = words_of(alloc, text)?;
-    let found = words.iter().find(|word| word.at == at).copied();
-    let before = words.iter().rev().find(|word| word.at < at).copied();
-    if is_size(&words, at) {
-        put_place(said, text, at)?;
-        return said.words("an array has 1 to 256 members");
+/// Writes what isn't allowed at a place, and what is.
+pub(crate) fn put_unexpected(lines: &mut Lines, spot: Spot<'_>) -> Result<(), AllocError> {
+    if is_size(spot) {
+        put_place(&mut lines.said, spot.text, spot.at)?;
+        return lines.words("an array has 1 to 256 members");
     }
-    let (front, _) = text.split_at(at.min(text.len()));
-    let bytes: &[u8] = match &found {
-        Some(word) => word.bytes,
-        None => b"",
+    let Some(expected) = Expected::of_text(lines.alloc, spot.text)? else {
+        return Ok(());
     };
-    let allowed = allowed_behind(alloc, front, bytes)?;
-    let on_later_line = before.is_some_and(|before| line_number(text, before.at)
-        < line_number(text, at));
-    if allowed.semicolon && on_later_line && is_open(&words, at) && begins_statement(&words, at) {
-        put_place(said, text, at)?;
-        put_found(said, text, found, before)?;
-        return said.words("this list is not closed: a list is `(values; cowns)`");
+    let allowed = Allowed::of(lines.alloc, &expected)?;
+    let found = spot.after(0);
+    let ends_line = allowed.has(b";") && is_on_later_line(spot);
+    if ends_line && is_open(spot.front) && begins_statement(spot) {
+        put_place(&mut lines.said, spot.text, spot.at)?;
+        put_found(lines, spot)?;
+        return lines.words("this list is not closed: a list is `(values; cowns)`");
     }
-    if let Some(before) = before
-        && (allowed.semicolon && on_later_line
-            || allowed.semicolon_lacks && ends_statement(bytes))
+    if let Some(last) = spot.front.last()
+        && (ends_line || allowed.lacks_semicolon && ends_statement(found))
     {
-        put_place(said, text, before.end())?;
-        return said.line(&[
-            Part::Words("a `;` is missing after "),
-            Part::Quote(before.bytes),
-            Part::Words(" on line "),
-            Part::Number(line_number(text, before.at)),
-        ]);
+        put_place(&mut lines.said, spot.text, last.end())?;
+        let parts = [Part::Quote(last.bytes), spot.line(last.at)];
+        return lines.put("a `;` is missing after {} on line {}", &parts);
     }
-    put_place(said, text, at)?;
-    put_found(said, text, found, before)?;
-    let open = open_blocks(alloc, &words, at)?;
-    if let Some(innermost) = open.last()
-        && let Some(outermost) = open.first()
-        && ends_no_block(bytes)
-        && allowed.has(b"}")
-        && opens_more(&words)
-    {
-        let lines = [
-            line_number(text, innermost.at),
-            line_number(text, outermost.at),
-        ];
-        return put_open(said, open.len(), lines);
+    put_place(&mut lines.said, spot.text, spot.at)?;
+    put_found(lines, spot)?;
+    let open = open_blocks(lines.alloc, spot.front)?;
+    let ends_no_block = found.is_empty() || is_first_word(found);
+    if !open.is_empty() && ends_no_block && allowed.has(b"}") && opens_more(spot.words) {
+        return put_open(lines, spot, &open);
     }
-    put_allowed(said, bytes, &allowed)?;
-    put_hint(said, &words, at, &allowed)
+    put_allowed(lines, found, &allowed)?;
+    put_hint(lines, spot, &allowed)
 }
 
-// The braces in front of a place that begin a block, and that none closes.
-fn open_blocks<'a>(
-    alloc: Global,
-    words: &[Word<'a>],
-    at: usize,
-) -> Result<Vec<Word<'a>>, AllocError> {
+// Returns whether the word before a place is on an earlier line.
+fn is_on_later_line(spot: Spot<'_>) -> bool {
+    match spot.front.last() {
+        Some(last) => line_number(spot.text, last.at) < line_number(spot.text, spot.at),
+        None => false,
+    }
+}
+
+// Returns the braces that begin a block, and that none of these words closes.
+fn open_blocks<'a>(alloc: Global, words: &[Word<'a>]) -> Result<Vec<Word<'a>>, AllocError> {
     let mut open = Vec::new(alloc);
-    for word in words.iter().take_while(|word| word.at < at) {
+    for word in words {
         if word.is(b"{") {
             open.push(*word)?;
         }
@@ -87,127 +70,92 @@ fn open_blocks<'a>(
     Ok(open)
 }
 
-// The word at a place begins a statement, or ends a block.
-fn begins_statement(words: &[Word<'_>], at: usize) -> bool {
-    let mut rest = words.iter().skip_while(|word| word.at < at);
-    match rest.next() {
-        Some(word) if word.is_name() => rest.next().is_some_and(|next| next.is(b"=")),
+// Returns whether the word at a place begins a statement, or ends a block.
+fn begins_statement(spot: Spot<'_>) -> bool {
+    match spot.rest.first() {
+        Some(word) if word.is_name() => spot.after(1) == b"=".as_slice(),
         Some(word) => word.is(b"}") || is_keyword(word.bytes),
         None => false,
     }
 }
 
-// A statement or a block ended in front of this. An `if` behind a value is rather meant as one.
+// Returns whether a statement or a block ended before this. An `if` after a value is rather meant as one.
 fn ends_statement(found: &[u8]) -> bool {
     matches!(found, b"}") || is_keyword(found) && !matches!(found, b"if" | b"else")
 }
 
-// The text has more braces that begin a block than such as end one.
+// Returns whether the text has more braces that begin a block than such as end one.
 fn opens_more(words: &[Word<'_>]) -> bool {
     let begun = words.iter().filter(|word| word.is(b"{")).count();
     let ended = words.iter().filter(|word| word.is(b"}")).count();
     begun > ended
 }
 
-// No block has this: the end of the text, or a word that begins a declaration.
-fn ends_no_block(found: &[u8]) -> bool {
-    found.is_empty() || is_first_word(found)
-}
-
-// Tells that blocks are not closed; the lines are those in which the innermost and the outermost of them begin.
-fn put_open(said: &mut Said, count: usize, lines: [u64; 2]) -> Result<(), AllocError> {
-    let [innermost, outermost] = lines;
-    if count == 1 {
-        return said.line(&[
-            Part::Words("the block that begins on line "),
-            Part::Number(innermost),
-            Part::Words(" is not closed: a `}` is missing"),
-        ]);
+// Writes that these blocks are not closed, which begin with the outermost.
+fn put_open(lines: &mut Lines, spot: Spot<'_>, open: &[Word<'_>]) -> Result<(), AllocError> {
+    match open {
+        [] => Ok(()),
+        [block] => lines.put(
+            "the block that begins on line {} is not closed: a `}` is missing",
+            &[spot.line(block.at)],
+        ),
+        [outermost, .., innermost] => lines.put(
+            "{} blocks are not closed: the innermost begins on line {}, the outermost on line {}",
+            &[
+                Part::Number(open.len() as u64),
+                spot.line(innermost.at),
+                spot.line(outermost.at),
+            ],
+        ),
     }
-    said.line(&[
-        Part::Number(count as u64),
-        Part::Words(" blocks are not closed: the innermost begins on line "),
-        Part::Number(innermost),
-        Part::Words(", the outermost on line "),
-        Part::Number(outermost),
-    ])
 }
 
-// The word is the size of an array, which is told only where it is 0.
-fn is_size(words: &[Word<'_>], at: usize) -> bool {
-    let mut before = words.iter().rev().skip_while(|word| word.at > at);
-    let zero = before
-        .next()
-        .is_some_and(|word| word.at == at && word.is(b"0"));
-    let bracket = before.next().is_some_and(|word| word.is(b"["));
-    let named = before.next().is_some_and(|word| word.is_name());
-    zero && bracket && named && before.next().is_some_and(|word| word.is(b"cown"))
+// Returns whether the word is the size of an array, which is reported only where it is 0.
+fn is_size(spot: Spot<'_>) -> bool {
+    let named = spot
+        .front
+        .iter()
+        .rev()
+        .nth(1)
+        .is_some_and(|word| word.is_name());
+    spot.after(0) == b"0".as_slice()
+        && spot.before(0) == b"[".as_slice()
+        && named
+        && spot.before(2) == b"cown".as_slice()
 }
 
-// What was found, and after what.
-fn put_found<'a>(
-    said: &mut Said,
-    text: &[u8],
-    found: Option<Word<'a>>,
-    before: Option<Word<'a>>,
-) -> Result<(), AllocError> {
-    let Some(before) = before else {
-        return match found {
-            Some(word) => said.line(&[
-                Part::Words("a program can't begin with "),
-                Part::Quote(word.bytes),
-            ]),
-            None => said.words("the program has no tokens"),
+// Writes what was found, and after what.
+fn put_found(lines: &mut Lines, spot: Spot<'_>) -> Result<(), AllocError> {
+    let found = Part::Quote(spot.after(0));
+    let Some(last) = spot.front.last() else {
+        return match spot.rest {
+            [] => lines.words("the program has no tokens"),
+            _ => lines.put("a program can't begin with {}", &[found]),
         };
     };
-    let (what, follows) = match found {
-        Some(word) => (Part::Quote(word.bytes), " can't follow "),
-        None => (Part::Words("the program"), " can't end after "),
-    };
-    said.line(&[
-        what,
-        Part::Words(follows),
-        Part::Quote(before.bytes),
-        Part::Words(" on line "),
-        Part::Number(line_number(text, before.at)),
-    ])
+    let (before, line) = (Part::Quote(last.bytes), spot.line(last.at));
+    match spot.rest {
+        [] => lines.put("the program can't end after {} on line {}", &[before, line]),
+        _ => lines.put("{} can't follow {} on line {}", &[found, before, line]),
+    }
 }
 
-// What is expected instead of these bytes.
-fn put_allowed(said: &mut Said, bytes: &[u8], allowed: &Allowed) -> Result<(), AllocError> {
-    if allowed.name && is_keyword(bytes) && !allowed.has(b"1") && !allowed.has(b"let") {
-        return said.line(&[
-            Part::Words("expected a name; "),
-            Part::Quote(bytes),
-            Part::Words(" is a keyword"),
-        ]);
+// Writes what is expected instead of these bytes.
+fn put_allowed(lines: &mut Lines, bytes: &[u8], allowed: &Allowed) -> Result<(), AllocError> {
+    if allowed.has(NAME) && is_keyword(bytes) && !allowed.has(NUMBER) && !allowed.has(b"let") {
+        let words = "expected a name; {} is a keyword";
+        return lines.put(words, &[Part::Quote(bytes)]);
     }
-    let mut tokens = allowed.tokens.iter().copied();
-    let Some(first) = tokens.next() else {
-        return said.words("a program ends with main's block");
+    let words = match allowed.tokens.len() {
+        0 => "a program ends with main's block",
+        1 => "expected {}",
+        2 => "expected one of: {}, {}",
+        MOST_TOLD => "expected one of: {}, {}, {}",
+        _ => "expected one of: {}, {}, {}, ..",
     };
-    let (second, comma) = part_of(tokens.next());
-    let (third, other_comma) = part_of(tokens.next());
-    let more = allowed.tokens.len() > MOST_TOLD;
-    said.line(&[
-        Part::Words(if allowed.tokens.len() > 1 {
-            "expected one of: "
-        } else {
-            "expected "
-        }),
-        told(first),
-        comma,
-        second,
-        other_comma,
-        third,
-        Part::Words(if more { ", .." } else { "" }),
-    ])
-}
-
-// How a token is told that may be there, and what stands before it.
-fn part_of(token: Option<&'static [u8]>) -> (Part<'static>, Part<'static>) {
-    match token {
-        Some(token) => (told(token), Part::Words(", ")),
-        None => (Part::Words(""), Part::Words("")),
+    let mut told = Vec::new(lines.alloc);
+    for token in allowed.tokens.iter().take(MOST_TOLD) {
+        told.push(token.told())?;
     }
+    lines.put(words, &told)
 }

@@ -18,7 +18,7 @@ one_refs x y r s p q e = one_list ref_phrase Close refs_readable x y r s e
 pub one_arguments : OneReading arguments_phrase
 one_arguments = one_pair (list_phrase expr_phrase Semicolon) (list_phrase ref_phrase Close) (λ _ _ _ _. tt) one_exprs one_refs
 
--- behind the parenthesis stands a semicolon
+-- after the parenthesis stands a semicolon
 pub no_call_end : (old mid end : Ahead) (f : List ℕ) (w : List Expr × List NamedCown) → old.tokens ≡ name f ∷ sign Open ∷ mid.tokens
     → Stands arguments_phrase mid w end.tokens → NoSign Semicolon end.tokens → NoneStands call_phrase old
 no_call_end old mid end f w e item none x r st =

@@ -9,7 +9,7 @@ use Rattle.boc_reader.specs.Grammar.{NoKeyword}
 use Rattle.boc_reader.proofs.Refused.{OneReading}
 use Rattle.boc_reader.proofs.Each.{AllSmall, AllEnd, ReadEach, list_nodes-append}
 
--- no phrase of the kind begins here, and one may stand before this
+-- no phrase of the kind begins here, and one may come before this
 pub record Stops {X : Type 0} (kind : Phrase X) (rest : List Token) : Type 0 where
   pub ends : (x : X) → kind.Ends x rest
   pub none : (x : X) (after : List Token) → rest ≢ kind.tokens x after
@@ -59,7 +59,7 @@ module _ {X : Type 0} (kind : Phrase X) (one : OneReading kind) (next : (x y : X
       let n = no_left l.0 w r at_w l.2 in
       (sym (l.1 ∙ ap (λ zs. xs ++ zs) n.0 ∙ append-nil xs), n.1)
 
--- phrases that a keyword begins, and that may stand before anything
+-- phrases that a keyword begins, and that may come before anything
 module _ {X : Type 0} (kind : Phrase X) (word : Keyword) (one : OneReading kind) (free : (x : X) (w : List Token) → kind.Ends x w)
     (begins : (x : X) (w : List Token) → (r : List Token) × (kind.tokens x w ≡ keyword word ∷ r)) where
   stop : (r : List Token) → NoKeyword word r → Stops kind r

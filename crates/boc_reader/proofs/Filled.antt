@@ -25,7 +25,7 @@ use Rattle.boc_reader.specs.Wanted.{behind_open_index, behind_close_index, behin
 use Rattle.boc_reader.specs.Wanted.{wanted_behind, wanted_after}
 use Rattle.boc_reader.specs.WrongShape.{AreWhole, BeginTree}
 
--- what is wanted stands in front of the rest
+-- what is wanted comes before the rest
 abbrev pub Fills : Wanted → List Token → List Token → Type 0
 Fills the.Cowns ts rest =
     (cs : List Cown) × (ds : List Def) × (b : Block) × HaveMembers cs
@@ -62,17 +62,17 @@ Fills the.NextName ts rest = (x : List ℕ) × (ts ≡ name x ∷ rest)
 Fills the.NextArg ts rest = (e : Expr) × (ts ≡ expr_tokens e rest)
 Fills the.NextRef ts rest = (r : NamedCown) × (ts ≡ ref_tokens r rest)
 
--- all that is wanted stands there, one behind the other, and nothing else
+-- all that is wanted stands there, one after the other, and nothing else
 abbrev pub FillAll : List Wanted → List Token → Type 0
 FillAll [] ts = ts ≡ []
 FillAll (w ∷ ws) ts = (rest : List Token) × Fills w ts rest × FillAll ws rest
 
--- the same of what is wanted behind a token, if it can stand there
+-- the same of what is wanted after a token, if it can stand there
 abbrev FillThen : Option (List Wanted) → List Wanted → List Token → Type 0
 FillThen None ws ts = ⊥
 FillThen (Some all) ws ts = FillAll (all ++ ws) ts
 
--- where what is wanted behind a token stands behind it, what was wanted stands from the token on
+-- where what is wanted after a token comes after it, what was wanted stands from the token on
 abbrev Behind : Token → Wanted → Option (List Wanted) → Type 0
 Behind t w found = (ws : List Wanted) (ts : List Token) → FillThen found ws ts → FillAll (w ∷ ws) (t ∷ ts)
 
@@ -163,7 +163,7 @@ factor_in_expr : (u : Unary) (op : TermOperator) (e : Expr) (r : List Token)
 factor_in_expr u op (plain s) r = let m = factor_in_sum u op s r in (plain m.0, m.1)
 factor_in_expr u op (compared s o t) r = let m = factor_in_sum u op s (sign (comparison_sign o) ∷ sum_tokens t r) in (compared m.0 o t, m.1)
 
--- a minus before an expression stands before its first factor
+-- a minus before an expression comes before its first factor
 minus_term : (t : Term) (r : List Token) → (m : Term) × (sign signs.Minus ∷ term_tokens t r ≡ term_tokens m r)
 minus_term (one_factor u) r = (one_factor (negated u), refl)
 minus_term (more_factors u op t) r = (more_factors (negated u) op t, refl)
@@ -278,7 +278,7 @@ at_token (number n) w = at_number n w
 at_token (keyword k) w = at_keyword k w
 at_token (sign s) w = at_sign s w
 
--- what may be left out stands in front of anything
+-- what may be left out comes before anything
 left_out : (w : Wanted) → may_be_left_out w ≡ true → (rest : List Token) → Fills w rest rest
 left_out the.Size e rest = (None, tt, refl)
 left_out the.Else e rest = λ e b. (if_only e b, refl)
@@ -301,7 +301,7 @@ taken t w ws vs (Some all) at e ts h deeper =
     at ws ts (subst (λ (vs : List Wanted). FillAll vs ts) (sym same) h)
 taken t w ws vs None at e ts h deeper = passed t w ws vs (may_be_left_out w) refl e ts deeper
 
--- a token in front of what is wanted behind it
+-- a token before what is wanted after it
 token_fills : (t : Token) (ws vs : List Wanted) → wanted_behind t ws ≡ Some vs → (ts : List Token) → FillAll vs ts → FillAll ws (t ∷ ts)
 token_fills t [] vs e ts h = absurd cc
 token_fills t (w ∷ ws) vs e ts h = taken t w ws vs (behind t w) (at_token t w) e ts h (λ d. token_fills t ws vs d ts h)
@@ -312,7 +312,7 @@ read_on : (t : Token) (ts : List Token) (ws vs : List Wanted) (found : Option (L
 read_on t ts ws vs (Some us) is e more deeper = token_fills t ws us is (ts ++ more) (deeper us e)
 read_on t ts ws vs None is e more deeper = absurd cc
 
--- tokens in front of what is wanted behind them
+-- tokens before what is wanted after them
 tokens_fill : (ts : List Token) (ws vs : List Wanted) → wanted_after ts ws ≡ Some vs → (more : List Token) → FillAll vs more → FillAll ws (ts ++ more)
 tokens_fill [] ws vs e more h =
     let same : ws ≡ vs = cc in

@@ -38,7 +38,7 @@ as_found e h = (h.0, sym e ∙ h.1)
 none_found : (found : Option Within) → found ≡ None → Found found → ⊥
 none_found found e h = let some = h.1 in cc
 
--- there was room for a node
+-- there was space for a node
 node_fits : (k d l : ℕ) (ts : List Token) (ws : List Wanted) (m : ℕ) → Found (within_left ts ws (take_node (room k d m l)))
     → (n : ℕ) × (m ≡ suc n) × Found (read_all ts ws (room k d n l))
 node_fits k d l ts ws zero h = absurd (none_found None refl h)
@@ -46,7 +46,7 @@ node_fits k d l ts ws (suc n) h = (n, refl, h)
 
 -- One token.
 module _ (k d l : ℕ) (ts : List Token) (ws : List Wanted) (m : ℕ) where
-  -- there was room for a node, and behind it these are wanted
+  -- there was space for a node, and after it these are wanted
   abbrev NodeThen : List Wanted → Type 0
   NodeThen vs = (n : ℕ) × (m ≡ suc n) × Found (read_all ts vs (room k d n l))
 
@@ -138,7 +138,7 @@ module _ (k d l : ℕ) where
         let r = expr_fits e a.0 (sign signs.Close ∷ ts) (the.Close ∷ inside c ∷ ws) a.2 in
         (r.0, a.1 ∙ ap suc r.1, close_fits k d l ts (inside c ∷ ws) r.0 e r.2)
 
--- an expression, and a token behind it that is no operator
+-- an expression, and a token after it that is no operator
 ended_fits : (k d l : ℕ) (e : Expr) (m : ℕ) (t : Token) (ts : List Token) (ws : List Wanted) → behind t the.InExpr ≡ None → behind t the.InSum ≡ None
     → Found (read_all (expr_tokens e (t ∷ ts)) (the.Expr ∷ ws) (room k d m l))
     → (n : ℕ) × (m ≡ expr_room e n) × Found (read_all (t ∷ ts) ws (room k d n l))
@@ -197,7 +197,7 @@ module _ (k d : ℕ) where
   no_next (plain s) m ts ws = no_next_sum s m ts ws
   no_next (compared s op t) m ts ws = no_next_sum s m (sign (comparison_sign op) ∷ sum_tokens t ts) ws
 
-  -- an argument behind a comma is one of a list
+  -- an argument after a comma is one of a list
   next_listed : (e : Expr) (m l : ℕ) (ts : List Token) (ws : List Wanted) → Found (read_all (expr_tokens e ts) (the.NextArg ∷ ws) (room k d m l))
       → (i : ℕ) × (l ≡ suc i) × Found (read_all (expr_tokens e ts) (the.Expr ∷ ws) (room k d m i))
   next_listed e m zero ts ws h = absurd (none_found (read_all (expr_tokens e ts) (the.NextArg ∷ ws) (room k d m 0)) (no_next e m ts ws) h)
@@ -224,7 +224,7 @@ module _ (k d : ℕ) where
       let r = more_args_fit e es m 7 ts ws (as_found (first_expr k d e m rest ws) h) in
       (r.0, r.1, omega (arith, r.2), r.3)
 
-  -- a reference behind a comma, and a token behind it that begins no index
+  -- a reference after a comma, and a token after it that begins no index
   one_ref_fits : (r : NamedCown) (m l : ℕ) (t : Token) (ts : List Token) (ws : List Wanted) → behind t the.Index ≡ None
       → Found (read_all (ref_tokens r (t ∷ ts)) (the.NextRef ∷ ws) (room k d m l))
       → (n : ℕ) × (i : ℕ) × (m ≡ suc (index_room r n)) × (l ≡ suc i) × Found (read_all (t ∷ ts) ws (room k d n i))
@@ -263,13 +263,13 @@ module _ (k d : ℕ) where
   refs_fit (r ∷ rs) m ts ws h =
       more_refs_fit r rs m 8 ts ws (as_found (first_ref_fits r m (behind_commas ref_tokens rs (sign signs.Close ∷ ts)) ws) h)
 
-  -- an expression, and the semicolon behind it
+  -- an expression, and the semicolon after it
   written_fits : (e : Expr) (m : ℕ) (ts : List Token) (ws : List Wanted)
       → Found (read_all (expr_tokens e (sign signs.Semicolon ∷ ts)) (the.Expr ∷ the.Semicolon ∷ ws) (room k d m 0))
       → (n : ℕ) × (m ≡ expr_room e n) × Found (read_all ts ws (room k d n 0))
   written_fits e m ts ws h = ended_fits k d 0 e m (sign signs.Semicolon) ts (the.Semicolon ∷ ws) refl refl h
 
-  -- an expression, and the block behind it
+  -- an expression, and the block after it
   guarded_fits : (e : Expr) (b : Block) (m : ℕ) (ts : List Token) (ws : List Wanted)
       → Found (read_all (expr_tokens e (braced_tokens b ts)) (the.Expr ∷ the.OpenBlock ∷ the.Stmts ∷ ws) (room k d m 0))
       → (n : ℕ) × (m ≡ expr_room e n) × Found (read_all (block_tokens b (sign signs.CloseBlock ∷ ts)) (the.Stmts ∷ ws) (room k d n 0))
@@ -358,7 +358,7 @@ some_taken i k d n most = rw most refl
 none_taken : (i k d n : ℕ) → nat_le i k ≡ false → take_cowns i (room k d n 0) ≡ None
 none_taken i k d n less = rw less refl
 
--- there was room for so many cowns
+-- there was space for so many cowns
 cowns_fit : (i k d n : ℕ) (ts : List Token) (ws : List Wanted) → Found (within_left ts ws (take_cowns i (room k d n 0)))
     → (i ≤ k) × Found (read_all ts ws (room (k - i) d n 0))
 cowns_fit i k d n ts ws h =

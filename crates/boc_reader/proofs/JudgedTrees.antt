@@ -36,7 +36,7 @@ declared t top h =
     let m = map_made made (cowns_behind [] 0 t.cowns) top h in
     sym m.gives ∙ ap made (cowns_behind_none t.cowns m.value m.is)
 
--- the defs come behind them
+-- the defs come after them
 pub at_defs : (tree : Tree') (start before : List (Bor Named)) (cs : List CownShape) (ds : List DefShape) (n : ℕ) (top : Top) → start ≡ []
     → cs ≡ tree.cowns.items → ds ≡ tree.defs.items → cowns_verdict (names_of start) (names_of_cowns cs) 0 ≡ right n
     → names_of before ≡ names_of start ++ names_of_cowns cs → top_in_order (tree_of tree) ≡ Some top

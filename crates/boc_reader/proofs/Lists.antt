@@ -8,7 +8,7 @@ use Rattle.boc_reader.specs.Phrases.{Ahead, Phrase, Stands}
 use Rattle.boc_reader.specs.Grammar.{list_phrase}
 use Rattle.boc_reader.proofs.Each.{list_nodes-append}
 
--- what was read, each with a comma behind it
+-- what was read, each with a comma after it
 abbrev pub before : {X : Type 0} → (X → List Token → List Token) → List X → List Token → List Token
 before tokens [] rest = rest
 before tokens (x ∷ xs) rest = tokens x (sign Comma ∷ before tokens xs rest)
@@ -34,7 +34,7 @@ before_last : {X : Type 0} (tokens : X → List Token → List Token) (xs : List
 before_last tokens [] x rest = refl
 before_last tokens (y ∷ ys) x rest = ap (tokens y) (behind_last tokens ys x rest)
 
--- one more was read, and a comma behind it
+-- one more was read, and a comma after it
 pub read_comma : {X : Type 0} (kind : Phrase X) (old mid item new : Ahead) (xs all : List X) (x : X) → ReadBefore kind old mid xs
     → Stands kind mid x item.tokens → kind.nodes x + item.room ≡ mid.room → length item.tokens < length mid.tokens → item.tokens ≡ sign Comma ∷ new.tokens
     → new.room ≡ item.room → length xs < 8 → all ≡ xs ++ x ∷ [] → ReadBefore kind old new all
@@ -49,7 +49,7 @@ read_comma kind old mid item new xs all x so_far st room shorter comma same few 
       shorter = omega (arith, so_far.shorter);
     })
 
--- the last was read, and the sign behind it
+-- the last was read, and the sign after it
 pub read_last : {X : Type 0} (kind : Phrase X) (close : Sign) (old mid item new : Ahead) (xs all : List X) (x : X) → ReadBefore kind old mid xs
     → Stands kind mid x item.tokens → kind.nodes x + item.room ≡ mid.room → length item.tokens < length mid.tokens → item.tokens ≡ sign close ∷ new.tokens
     → new.room ≡ item.room → length xs < 8 → all ≡ xs ++ x ∷ []

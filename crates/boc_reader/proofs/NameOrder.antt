@@ -17,7 +17,7 @@ use Rattle.boc_reader.specs.NameUses.{variable_fault, new_fault}
 use Rattle.boc_reader.specs.WrongNames.{names_of_tokens}
 use Rattle.boc_reader.specs.declared.fault.NameFault.{NameFault}
 
--- the names of uses, in front of others
+-- the names of uses, before others
 abbrev pub before : List Use → List Named → List Named
 before [] rest = rest
 before (u ∷ us) rest = u.name ∷ before us rest
@@ -91,7 +91,7 @@ ref_order : (outside : Outside) (scope : List Named) (r : NamedCown) → Follows
 ref_order outside scope (alone x) = name_follows x _
 ref_order outside scope (member x e) = both_follow (name_follows x _) (behind_sign signs.OpenIndex (before_sign signs.CloseIndex (expr_order e scope)))
 
--- what stands behind a name that is written to
+-- what comes after a name that is written to
 written_order : (e : Expr) (scope : List Named) → Follows (written_tokens e) (expr_uses e scope)
 written_order e scope = behind_sign signs.Assign (before_sign signs.Semicolon (expr_order e scope))
 

@@ -27,7 +27,7 @@ placed_at text [] i placed small = absurd (omega arith)
 placed_at text (p ∷ ps) zero placed small = placed.0
 placed_at text (p ∷ ps) (suc i) placed small = placed_at text ps i placed.1 (omega arith)
 
--- the defs from one on begin with a keyword, behind which its name stands
+-- the defs from one on begin with a keyword, after which its name stands
 name_tail : (ds : List Def) (main : Block) (k : ℕ) → k < length ds
     → Tail (from_name (drop k ds) main) (each_tokens def_tokens (drop k ds) (main_tokens main))
 name_tail [] main k small = absurd (omega arith)

@@ -4,7 +4,7 @@ use Rattle.std.proofs.Common.{append_assoc, append-nil, length-drop}
 use Rattle.std.proofs.lemmas.List.{drop-drop, map_push}
 use Rattle.boc_reader.specs.Tokens as the
 use Rattle.boc_reader.specs.Tokens.{put, tokens_of_text}
-use Rattle.boc_reader.specs.Placed.{token_of, tokens_of, ArePlaced, AreReached, BeginsToken, IsEndOf}
+use Rattle.boc_reader.specs.Placed.{token_of, tokens_of, ArePlaced, AreEnded, AreReached, BeginsToken, IsEndOf}
 use Rattle.boc_reader.specs.WrongTokens.{HasRead}
 use Rattle.boc_reader.specs.declared.token.Placed.{Placed}
 use Rattle.boc_reader.proofs.Texts.{put_all, no_tokens}
@@ -25,7 +25,7 @@ end_more last middle text first then =
     then ∙ ap (drop (length middle - length last)) first ∙ drop-drop (length middle - length last) (length text - length middle) text
     ∙ ap (λ n. drop n text) (omega (arith, m, l))
 
--- each of these tokens begins at its place, in front of what is left
+-- each of these tokens begins at its place, before what is left
 abbrev pub StandBefore : List ℕ → List ℕ → List Placed → Type 0
 StandBefore text rest [] = Unit {0}
 StandBefore text rest (p ∷ ps) =
@@ -38,7 +38,7 @@ still_before text rest after [] same stand = tt
 still_before text rest after (p ∷ ps) same stand =
     (stand.0, stand.1 ∙ ap (put_all (tokens_of (p ∷ ps))) same, still_before text rest after ps same stand.2)
 
--- a token found behind others
+-- a token found after others
 put_more : (ws : List the.Token) (w : the.Token) (found : Option (List the.Token)) → put_all ws (put (Some w) found) ≡ put_all (ws ++ w ∷ []) found
 put_more ws w None = refl
 put_more ws w (Some vs) = ap Some (sym (append_assoc ws (w ∷ []) vs))
@@ -78,4 +78,14 @@ reached_more text before (q ∷ qs) p reached read = (
   reached.0,
   reached_more text (before ++ token_of q.token ∷ []) qs p reached.1
       (subst (HasRead text (drop p.at text)) (sym (append_assoc before (token_of q.token ∷ []) (tokens_of qs))) read),
+)
+
+-- a token more, up to whose end the text was read
+pub ended_more : (text : List ℕ) (before : List the.Token) (ps : List Placed) (p : Placed) → AreEnded text before ps
+    → HasRead text (drop p.end text) (before ++ (tokens_of ps ++ token_of p.token ∷ [])) → AreEnded text before (ps ++ p ∷ [])
+ended_more text before [] p ended read = (read, tt)
+ended_more text before (q ∷ qs) p ended read = (
+  ended.0,
+  ended_more text (before ++ token_of q.token ∷ []) qs p ended.1
+      (subst (HasRead text (drop p.end text)) (sym (append_assoc before (token_of q.token ∷ []) (tokens_of qs ++ token_of p.token ∷ []))) read),
 )

@@ -12,7 +12,7 @@ use Rattle.boc_reader.specs.Tokens.{put, tokens_of_pieces, tokens_of_text}
 use Rattle.boc_reader.specs.WrongTokens.{piece_bytes, bytes_of, pieces_of, LeadOn, HasRead, BeginsWrong, GoesWrong, IsWrongPiece}
 use Rattle.boc_reader.proofs.Texts.{put_all, pieces_of_blank, pieces_of_hash, pieces_of_high, none_high, in_comment, comment_goes_on}
 
--- tokens in front of others, where both are there
+-- tokens before others, where both are there
 abbrev both : Option (List Token) → Option (List Token) → Option (List Token)
 both None found = None
 both (Some ws) found = put_all ws found
@@ -27,7 +27,7 @@ pub nothing_put : (found : Option (List Token)) → put_all [] found ≡ found
 nothing_put None = refl
 nothing_put (Some vs) = refl
 
--- the tokens of pieces in front of others
+-- the tokens of pieces before others
 pub tokens_in_front : (ps qs : List Piece) → tokens_of_pieces (ps ++ qs) ≡ both (tokens_of_pieces ps) (tokens_of_pieces qs)
 tokens_in_front [] qs = sym (nothing_put (tokens_of_pieces qs))
 tokens_in_front (run bs ∷ ps) qs = ap (put (token_of_run bs)) (tokens_in_front ps qs) ∙ put_both (token_of_run bs) (tokens_of_pieces ps) (tokens_of_pieces qs)
@@ -109,7 +109,7 @@ put_one w (Some vs) = refl
 pub token_read : (text rest : List ℕ) (w : Token) → HasRead text rest (w ∷ []) → tokens_of_text text ≡ put (Some w) (tokens_of_text rest)
 token_read text rest w h = tokens_read text rest (w ∷ []) h ∙ put_one w (tokens_of_text rest)
 
--- behind a byte from 128 on nothing is read
+-- after a byte from 128 on nothing is read
 module _ (b : ℕ) (bs after : List ℕ) (vs : List Token) (high : 128 ≤ b) (h : HasRead (b ∷ bs) after vs) (less : length after < length (b ∷ bs)) where
   none_before : (before : List Piece) → before ≡ h.before → ⊥
   none_before [] e = let n = ap bytes_of e in let k = h.bytes in omega (arith, n, k, less)
@@ -283,7 +283,7 @@ wrong_has_none fault text at h =
     ap tokens_of_pieces h.parts ∙ tokens_in_front h.before (h.wrong ∷ h.behind)
     ∙ ap (both (tokens_of_pieces h.before)) (wrong_is_none fault h.wrong h.behind h.is_wrong) ∙ ap (λ x. both x None) h.has_tokens
 
--- what is told of a text that goes wrong there
+-- what is reported of a text that goes wrong there
 pub tells_first : (fault : TokenFault) (text : List ℕ) (at : ℕ) (told : ReadFault) → length text ≤ MOST_TEXT → at < length text
     → GoesWrong fault text at → (at ≤ length text → told.at ≡ at) → StandsIn told text → HasNoTokens text × StandsFirst fault told text
 tells_first fault text at told short within first there stands = (

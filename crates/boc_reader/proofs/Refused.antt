@@ -34,14 +34,14 @@ pub passes_on : {Y : Type 0} (Good : Y → Type 0) (P Q : Type 0) (r : Result Y 
 passes_on Good P Q (Ok y) e is h f = absurd is
 passes_on Good P Q (Err d) e is h f = refusal_on d (subst (λ (x : Fault ShapeFault). Refusal x P) (sym is) h) f
 
--- a phrase, and the sign behind it
+-- a phrase, and the sign after it
 module _ {X : Type 0} (kind : Phrase X) (close : Sign) (closes : (x : X) (r : List Token) → kind.Ends x (sign close ∷ r)) where
   pub no_close : OneReading kind → (old mid : Ahead) (x : X) → Stands kind old x mid.tokens → NoSign close mid.tokens
       → NoneStands (closed_phrase kind close) old
   no_close one old mid x item none y r st =
       none r (one x y mid.tokens (sign close ∷ r) item.ends (closes y r) (sym item.tokens ∙ st.tokens)).1
 
--- a phrase behind another
+-- a phrase after another
 module _ {X Y : Type 0} (first : Phrase X) (second : Phrase Y) (follows : (x : X) (y : Y) (r : List Token) → second.Ends y r → first.Ends x (second.tokens y r))
   where
     pub no_first : (old : Ahead) → NoneStands first old → NoneStands (pair_phrase first second) old

@@ -1,4 +1,4 @@
--- What is resolved so far, in front of what follows.
+-- What is resolved so far, before what follows.
 use Rattle.std.proofs.Common.{◌≡◌, ℕ, suc, ◌+◌, ◌<◌, List, [], ◌∷◌, ◌++◌, length, map, drop, get_or, Bool, false, Option, Some, None, refl, sym, ap, ◌∙◌}
 use Rattle.std.proofs.Common.{add-one, drop-cons}
 use Rattle.std.specs.Prelude.{if◌then◌else◌}
@@ -11,7 +11,7 @@ use Rattle.boc_reader.specs.Views.{def_of}
 use Rattle.boc_reader.specs.Resolving.{def_names, bodies_behind}
 use Rattle.boc_reader.proofs.ResolvingLists.{with_front}
 
--- the item that stands at a place, and those behind it
+-- the item that stands at a place, and those after it
 pub next_at : {X : Type 0} (xs : List X) (i : ℕ) (x : X) → i < length xs → x ≡ get_or xs i x → drop i xs ≡ x ∷ drop (i + 1) xs
 next_at xs i x h e = rw (add-one, drop-cons xs i x h) (ap (λ z. z ∷ drop (suc i) xs) (sym e))
 

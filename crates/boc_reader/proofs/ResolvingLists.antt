@@ -27,7 +27,7 @@ pub find-map : {X Y : Type 0} (p : Y → Bool) (f : X → Y) (xs : List X) → f
 find-map p f [] = refl
 find-map p f (x ∷ xs) = ap (cond (p (f x)) (Some (f x))) (find-map p f xs) ∙ sym (map_cond f (p (f x)) (Some x) (find (λ y. p (f y)) xs))
 
--- the items so far, in front of others
+-- the items so far, before others
 abbrev pub with_front : {X : Type 0} → List X → Option (List X) → Option (List X)
 with_front front None = None
 with_front front (Some xs) = Some (front ++ xs)

@@ -68,7 +68,7 @@ are_new-append before (x ∷ xs) ys =
     ∙ ap (λ s. are_new (before ++ x ∷ []) xs && are_new s ys) (append_assoc before (x ∷ []) xs))
     ∙ and_assoc (not (among before x)) (are_new (before ++ x ∷ []) xs) (are_new (before ++ (x ∷ xs)) ys)
 
--- one test behind another
+-- one test after another
 if_both : {X : Type 0} (a b : Bool) (s : Option X) → (if a then None else (if b then s else None)) ≡ (if not a && b then s else None)
 if_both true b s = refl
 if_both false b s = refl

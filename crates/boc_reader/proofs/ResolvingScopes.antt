@@ -17,7 +17,7 @@ abbrev pub code_onto : List Stmt → Code → Code
 code_onto [] c = c
 code_onto (s ∷ ss) c = before s (code_onto ss c)
 
--- the statements so far, in front of others
+-- the statements so far, before others
 abbrev pub with_code : List Stmt → Option Code → Option Code
 with_code front None = None
 with_code front (Some c) = Some (code_onto front c)

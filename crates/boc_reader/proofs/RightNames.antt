@@ -209,7 +209,7 @@ regroup : (v : Verdict) (f g : ℕ → Verdict) → if_right (if_right v f) g �
 regroup (right n) f g = refl
 regroup (wrong fault n) f g = refl
 
--- the names in scope behind a statement that resolves
+-- the names in scope after a statement that resolves
 scope_after : (s : Stmt) (outside : Outside) (scope : List Named) (y : ResolvedStmt × List Named) → stmt_names s outside scope ≡ Some y
     → scope_behind s scope ≡ y.1
 scope_after (declare x e) outside scope y h =

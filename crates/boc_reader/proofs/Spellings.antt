@@ -1,4 +1,4 @@
--- A text spells one program at most, and none where a fault is told.
+-- A text spells one program at most, and none where a fault is reported.
 use Rattle.std.proofs.Common.{◌≡◌, ◌≢◌, ℕ, List, Some, map, refl, sym, ap, ◌∙◌, subst, arith}
 use Rattle.boc_program.specs.declared.program.Program.{Program}
 use Rattle.boc_reader.specs.Tokens.{Token, tokens_of_text}

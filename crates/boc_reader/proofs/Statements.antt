@@ -40,14 +40,14 @@ block_ends x (next y b) r = next_stmt x y _
 pub brace_ends : (x : Expr) (b : Block) (r : List Token) → expr_phrase.Ends x (braced_tokens b r)
 brace_ends x b r = sign_ends OpenBlock refl x _
 
--- an expression, and the semicolon behind it
+-- an expression, and the semicolon after it
 one_ended : (e f : Expr) (r s : List Token) → expr_tokens e (sign Semicolon ∷ r) ≡ expr_tokens f (sign Semicolon ∷ s) → (e ≡ f) × (r ≡ s)
 one_ended e f r s h =
     let u = one_expr e f (sign Semicolon ∷ r) (sign Semicolon ∷ s) (sign_ends Semicolon refl e r) (sign_ends Semicolon refl f s) h in
     let t = u.1 in
     (u.0, cc)
 
--- an expression, and what stands in the block behind it
+-- an expression, and what stands in the block after it
 one_guard : (e f : Expr) (b c : Block) (r s : List Token) → expr_tokens e (braced_tokens b r) ≡ expr_tokens f (braced_tokens c s)
     → (e ≡ f) × (block_tokens b (sign CloseBlock ∷ r) ≡ block_tokens c (sign CloseBlock ∷ s))
 one_guard e f b c r s h =

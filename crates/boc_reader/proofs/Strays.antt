@@ -1,5 +1,6 @@
--- Where the shape of tokens goes wrong first, by what was wanted in front of it.
-use Rattle.std.proofs.Common.{◌≡◌, ◌≢◌, ℕ, ◌+◌, ◌-◌, ◌<◌, ◌≤◌, inl, inr, List, [], ◌∷◌, ◌++◌, length, get_or, map, take, drop, Option, Some, None, refl}
+-- Where the shape of tokens goes wrong first, by what was wanted before it.
+use Rattle.std.proofs.Common.{◌≡◌, ◌≢◌, ℕ, ◌+◌, ◌-◌, ◌<◌, ◌≤◌, inl, inr, List, [], ◌∷◌, ◌++◌}
+use Rattle.std.proofs.Common.{length, get_or, map, take, drop, Bool, true, false, if◌then◌else◌, Option, Some, None, refl}
 use Rattle.std.proofs.Common.{sym, ap, ◌∙◌, subst, arith, append_assoc, length-drop, reverse}
 use Rattle.std.proofs.lemmas.Bool.{cases_lt}
 use Rattle.std.proofs.lemmas.List.{drop_all, drop-drop, drop-map, drop-take, length-map, length-reverse, map_more, nil_from_length, reverse-append}
@@ -9,8 +10,9 @@ use Rattle.boc_reader.specs.declared.wanted.Wanted.{Wanted}
 use Rattle.boc_reader.specs.declared.wanted.Wanted.TheVariants.{Cowns}
 use Rattle.boc_reader.specs.Tokens.{Token}
 use Rattle.boc_reader.specs.Placed.{BeginsToken, token_of, tokens_of}
-use Rattle.boc_reader.specs.Wanted.{wanted_behind, wanted_after}
-use Rattle.boc_reader.specs.Room.{Within, room_of_text, within_behind, within_after}
+use Rattle.boc_reader.specs.Wanted.{behind, may_be_left_out, wanted_behind, wanted_after}
+use Rattle.boc_reader.specs.Room.{Within, left_behind, room_of_text, with_room, within_behind, within_after}
+use Rattle.boc_reader.specs.declared.room.Room.{Room}
 use Rattle.boc_reader.specs.Grammar.{NoShape}
 use Rattle.boc_reader.specs.WrongShape.{AreWhole, BeginTree, IsWrongThere, PassNoLimit, PassesLimit, ShapeFaultSays, ShapeGoesWrong, ShapeFaultStandsAt}
 use Rattle.boc_reader.specs.WrongShape.{StandAt}
@@ -38,7 +40,7 @@ behind_read : (ts more : List Token) (found : Option (List Wanted)) (vs : List W
 behind_read ts more (Some us) vs deeper e = deeper us e
 behind_read ts more None vs deeper e = absurd cc
 
--- tokens behind others
+-- tokens after others
 after_append : (ts more : List Token) (ws vs : List Wanted) → wanted_after ts ws ≡ Some vs → wanted_after (ts ++ more) ws ≡ wanted_after more vs
 after_append [] more ws vs e = let same : ws ≡ vs = cc in ap (wanted_after more) same
 after_append (t ∷ ts) more ws vs e = behind_read ts more (wanted_behind t ws) vs (λ us d. after_append ts more us vs d) e
@@ -48,7 +50,7 @@ found_read (Some us) = refl
 found_read None = refl
 
 -- one token more
-one_read : (ts : List Token) (t : Token) (ws : List Wanted) → wanted_after ts (Cowns ∷ []) ≡ Some ws
+pub one_read : (ts : List Token) (t : Token) (ws : List Wanted) → wanted_after ts (Cowns ∷ []) ≡ Some ws
     → wanted_after (ts ++ t ∷ []) (Cowns ∷ []) ≡ wanted_behind t ws
 one_read ts t ws e = after_append ts (t ∷ []) (Cowns ∷ []) ws e ∙ found_read (wanted_behind t ws)
 
@@ -67,14 +69,14 @@ pub placed_read : (ps : List Placed) (k : ℕ) (p : Placed) (ws : List Wanted) �
 placed_read ps k p ws small is e =
     ap (λ (ts : List Token). wanted_after ts (Cowns ∷ [])) (one_placed ps k p small is) ∙ one_read (take k (tokens_of ps)) (token_of p.token) ws e
 
--- what stands behind so many tokens
+-- what comes after so many tokens
 one_dropped : (ps : List Placed) (k : ℕ) (p : Placed) → k < length ps → p ≡ get_or ps k p
     → drop k (tokens_of ps) ≡ token_of p.token ∷ drop (k + 1) (tokens_of ps)
 one_dropped ps k p small is =
     let token : Placed → Token = λ p. token_of p.token in
     drop-map token k ps ∙ ap tokens_of (next_at ps k p small is) ∙ ap (λ (ts : List Token). token_of p.token ∷ ts) (sym (drop-map token (k + 1) ps))
 
--- the tokens behind one, as a slice has them
+-- the tokens after one, as a slice has them
 pub after_is : (ps : List Placed) (k : ℕ) → tokens_of (take (length ps - (k + 1)) (drop (k + 1) ps)) ≡ drop (k + 1) (tokens_of ps)
 after_is ps k =
     let long = length-drop (k + 1) ps in
@@ -86,7 +88,7 @@ found_within : (found : Option Within) (after : List Token)
 found_within (Some q) after = refl
 found_within None after = refl
 
--- so many tokens of a text, in front of the others
+-- so many tokens of a text, before the others
 abbrev pub front_within : List Token → ℕ → Option Within
 front_within ts k = within_after (take k ts) (drop k ts) (Cowns ∷ []) room_of_text
 
@@ -134,20 +136,27 @@ wrong_at_token ps k p ws small is e none =
       ends = λ same _. omega (arith, long, same);
     }
 
--- what was wanted behind all of them
+-- what was wanted after all of them
 all_placed_read : (ps : List Placed) (k : ℕ) (ws : List Wanted) → length ps ≤ k → wanted_after (take k (tokens_of ps)) (Cowns ∷ []) ≡ Some ws
     → wanted_after (tokens_of ps) (Cowns ∷ []) ≡ Some ws
 all_placed_read ps k ws most e =
     let long = length-map ps (λ (p : Placed). token_of p.token) in
     ap (λ (ts : List Token). wanted_after ts (Cowns ∷ [])) (sym (take_all k (tokens_of ps) (omega (arith, long)))) ∙ e
 
--- where nothing is wanted behind all tokens they are those of a tree
+-- so many as there are of them are all
+pub wanted_at_end : (ps : List Placed) (k : ℕ) (ws : List Wanted) → length ps ≤ k → wanted_after (take k (tokens_of ps)) (Cowns ∷ []) ≡ Some ws
+    → wanted_after (take (length ps) (tokens_of ps)) (Cowns ∷ []) ≡ Some ws
+wanted_at_end ps k ws most e =
+    let long = length-map ps (λ (p : Placed). token_of p.token) in
+    ap (λ (ts : List Token). wanted_after ts (Cowns ∷ [])) (take_all (length ps) (tokens_of ps) (omega (arith, long))) ∙ all_placed_read ps k ws most e
+
+-- where nothing is wanted after all tokens they are those of a tree
 pub whole_at_end : (ps : List Placed) (k : ℕ) (items : List Wanted) → length ps ≤ k
     → wanted_after (take k (tokens_of ps)) (Cowns ∷ []) ≡ Some (reverse items) → length items ≡ 0 → AreWhole (tokens_of ps)
 whole_at_end ps k items most e none =
     all_read (tokens_of ps) (all_placed_read ps k (reverse items) most e ∙ ap (λ (ws : List Wanted). Some (reverse ws)) (nil_from_length items none))
 
--- where more is wanted behind all tokens the shape goes wrong at their end
+-- where more is wanted after all tokens the shape goes wrong at their end
 pub wrong_at_end : (ps : List Placed) (k : ℕ) (items : List Wanted) → length ps ≤ k
     → wanted_after (take k (tokens_of ps)) (Cowns ∷ []) ≡ Some (reverse items) → length items ≢ 0 → ShapeGoesWrong (tokens_of ps) (length ps)
 wrong_at_end ps k items most e some =
@@ -216,6 +225,29 @@ all_within ps k most =
     ap (λ (us : List Token). within_after us (drop k ts) (Cowns ∷ []) room_of_text) (take_all k ts (omega (arith, long)))
     ∙ ap (λ (us : List Token). within_after ts us (Cowns ∷ []) room_of_text) (drop_all k ts (omega (arith, long)))
 
+pub within_at_end : (ps : List Placed) (k : ℕ) (s : Within) → length ps ≤ k → front_within (tokens_of ps) k ≡ Some s
+    → front_within (tokens_of ps) (length ps) ≡ Some s
+within_at_end ps k s most e = all_within ps (length ps) (omega arith) ∙ sym (all_within ps k most) ∙ e
+
+wrong_at : (ws : List Wanted) (left : Option Room) (found : Option (List Wanted)) (out : Bool) (rest : Option (List Wanted)) (within : Option Within)
+    → (rest ≡ None → within ≡ None) → ◌≡◌ {A = Option (List Wanted)} (elim found [ Some all ↦ Some (all ++ ws) | None ↦ if out then rest else None ]) None
+    → ◌≡◌ {A = Option Within} (elim found [ Some all ↦ with_room (all ++ ws) left | None ↦ if out then within else None ]) None
+wrong_at ws left (Some all) out rest within deeper none = absurd cc
+wrong_at ws left None true rest within deeper none = deeper none
+wrong_at ws left None false rest within deeper none = refl
+
+-- what can't be there has no room there
+pub none_within : (t : Token) (after : List Token) (ws : List Wanted) (r : Room) → wanted_behind t ws ≡ None → within_behind t after ws r ≡ None
+none_within t after [] r none = refl
+none_within t after (w ∷ ws) r none =
+    wrong_at ws (left_behind t after w r) (behind t w) (may_be_left_out w) (wanted_behind t ws) (within_behind t after ws r) (none_within t after ws r) none
+
+-- what is wrong with a token leaves nothing after it
+pub wrong_within : (fault : ShapeFault) (t : Token) (after : List Token) (ws : List Wanted) (r : Room) → IsWrongThere fault t after ws r
+    → within_behind t after ws r ≡ None
+wrong_within faults.Unexpected t after ws r wrong = none_within t after ws r wrong
+wrong_within faults.TooMany t after ws r wrong = wrong.1
+
 -- at the end nothing has passed a limit
 pub none_at_end : (ps : List Placed) (k : ℕ) (s : Within) → length ps ≤ k → front_within (tokens_of ps) k ≡ Some s → PassNoLimit (tokens_of ps) (length ps)
 none_at_end ps k s most e none =
@@ -249,7 +281,7 @@ place_within text at passed [] stand = omega (arith, stand)
 place_within text at passed (t ∷ ts) stand =
     elim (cases_lt (length text) at) [ inl less ↦ absurd (subst BeginsToken (drop_all at text (omega arith)) stand.1.begins) | inr within ↦ within ]
 
--- what is told of a text whose shape goes wrong there
+-- what is reported of a text whose shape goes wrong there
 pub tells_shape : (wrong : ShapeFault) (text : List ℕ) (at : ℕ) (told : ReadFault) → ShapeFaultStandsAt wrong text at
     → (at ≤ length text → told.at ≡ at) → StandsIn told text → StandsInShape wrong told text
 tells_shape wrong text at told first there stands =
@@ -265,7 +297,7 @@ pub passed_first : (ts : List Token) (j k : ℕ) → PassesLimit ts j → PassNo
 passed_first ts j k one other =
     elim (cases_lt j k) [ inl less ↦ absurd (one.passes (λ none. other (front_over ts (j + 1) k (omega arith) none))) | inr most ↦ most ]
 
--- no limit is passed at a token that can't stand there, or behind it
+-- no limit is passed at a token that can't be there, or after it
 never_both : (ts : List Token) (j k : ℕ) → PassesLimit ts j → ShapeGoesWrong ts k → PassNoLimit ts k → ⊥
 never_both ts j k one other first =
     let before = passed_first ts j k one first in

@@ -27,7 +27,7 @@ tail_next w t = record { front = w ∷ t.front; is = ap (λ ws. w ∷ ws) t.is }
 pub tail_more : {rest middle whole : List Token} → Tail middle whole → Tail rest middle → Tail rest whole
 tail_more {rest} t u = record { front = t.front ++ u.front; is = t.is ∙ ap (λ ws. t.front ++ ws) u.is ∙ sym (append_assoc t.front u.front rest) }
 
--- it is what stands behind as many tokens as there are more of the whole
+-- it is what comes after as many tokens as there are more of the whole
 pub tail_drop : (rest whole : List Token) → Tail rest whole → rest ≡ drop (length whole - length rest) whole
 tail_drop rest whole t =
     let long : length t.front ≡ length whole - length rest = omega (arith, ap length t.is, length-append t.front rest) in
@@ -76,11 +76,11 @@ ref_tail : (x : NamedCown) (rest : List Token) → Tail rest (ref_tokens x rest)
 ref_tail (alone x) rest = tail_next _ (tail_self rest)
 ref_tail (member x e) rest = tail_next _ (tail_next _ (tail_more (expr_tail e (sign signs.CloseIndex ∷ rest)) (tail_next _ (tail_self rest))))
 
--- an expression, and the token behind it
+-- an expression, and the token after it
 ended_tail : (e : Expr) (w : Token) (rest : List Token) → Tail rest (expr_tokens e (w ∷ rest))
 ended_tail e w rest = tail_more (expr_tail e (w ∷ rest)) (tail_next w (tail_self rest))
 
--- behind a token more
+-- after a token more
 behind : {rest whole : List Token} (w : Token) → Tail (w ∷ rest) whole → Tail rest whole
 behind {rest} w t = tail_more t (tail_next w (tail_self rest))
 

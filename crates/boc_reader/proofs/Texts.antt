@@ -66,7 +66,7 @@ in_comment bs = cut (without_comments true bs)
 pub pieces_of_hash : (bs : List ℕ) → pieces_of (35 ∷ bs) ≡ single 32 ∷ in_comment bs
 pieces_of_hash bs = blank_by_itself 32 (without_comments true bs) refl
 
--- what has been cut behind a run
+-- what has been cut after a run
 abbrev NoRun : List Piece → Type 0
 NoRun [] = Unit {0}
 NoRun (run bs ∷ ps) = ⊥
@@ -88,7 +88,7 @@ join_no_run : (b : ℕ) (ps : List Piece) → NoRun ps → join b ps ≡ run (b 
 join_no_run b (run bs ∷ ps) h = absurd h
 join_no_run b _ h = refl
 
--- name bytes in front of others are one run
+-- name bytes before others are one run
 cut_run : (b : ℕ) (w bs : List ℕ) → is_name_byte b ≡ true → AllByRecursion (λ c. is_name_byte c ≡ true) w → NoNameByte bs
     → cut (b ∷ (w ++ bs)) ≡ run (b ∷ w) ∷ cut bs
 cut_run b [] bs h all none =
@@ -196,7 +196,7 @@ run_ascii bs n e =
     let t : take n bs ≡ s.0 = ap (λ m. take m bs) k ∙ ap (take (length s.0)) s.2 ∙ take-append_seam s.0 s.1 in
     subst IsAscii (sym t) (ascii_of s.0 s.3)
 
--- the tokens so far, in front of others
+-- the tokens so far, before others
 abbrev pub put_all : List Token → Option (List Token) → Option (List Token)
 put_all ws None = None
 put_all ws (Some vs) = Some (ws ++ vs)

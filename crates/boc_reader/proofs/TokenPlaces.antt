@@ -46,7 +46,7 @@ token_behind text (b ∷ bs) ws vs w h begins has =
           absurd (cc (ap tokens_of_pieces parts ∙ none_high high.0 (pieces_of high.1) high.5, has))
     ]
 
--- the place of a token behind those that were read before it
+-- the place of a token after those that were read before it
 pub stands_at : (text : List ℕ) (ws : List Token) (ps : List Placed) (k : ℕ) (p : Placed) → ArePlaced text ps → AreReached text ws ps → k < length ps
     → p ≡ get_or ps k p → StandAt text p.at (ws ++ take k (tokens_of ps)) (drop k (tokens_of ps))
 stands_at text ws [] k p placed reached small is = absurd (omega arith)
@@ -118,7 +118,7 @@ one_cut (r ∷ ps) (s ∷ qs) p q rs ss ws vs w v a b n h k e =
     omega (arith, n, one_more r ps ws behind.0 a behind.1, one_more s qs vs after.0 b after.1, ap tokens_in first) in
     omega (arith, ap piece_bytes first, one_cut ps qs p q rs ss behind.0 after.0 w v behind.1 after.1 count h k others)
 
--- the token behind others of a text begins at one place
+-- the token after others of a text begins at one place
 pub one_token_place : (text : List ℕ) (at place : ℕ) (passed : List Token) (w v : Token) → IsPlaceOfToken text at passed w
     → IsPlaceOfToken text place passed v → at ≡ place
 one_token_place text at place passed w v a b =

@@ -22,7 +22,7 @@ within : (f : Option NameFault) (n : ℕ) (v : Verdict) (behind : ℕ → Verdic
 within None n v behind = refl
 within (Some fault) n v behind = refl
 
--- names behind others
+-- names after others
 pub verdict-append : (n : ℕ) (us vs : List Use) → verdict n (us ++ vs) ≡ if_right (verdict n us) (λ m. verdict m vs)
 verdict-append n [] vs = refl
 verdict-append n (u ∷ us) vs =

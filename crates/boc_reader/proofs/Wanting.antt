@@ -19,7 +19,7 @@ use Rattle.boc_reader.specs.Shape.{HaveMembers, size_tokens, minus_tokens, Def, 
 use Rattle.boc_reader.specs.Wanted.{behind, wanted_behind, wanted_after}
 use Rattle.boc_reader.specs.WrongShape.{AreWhole, BeginTree}
 
--- an operand where an expression is wanted, or a side of a comparison; and behind it
+-- an operand where an expression is wanted, or a side of a comparison; and after it
 abbrev pub operand : Bool → Wanted
 operand true = the.Sum
 operand false = the.Expr
@@ -71,7 +71,7 @@ comparison_wanted comparisons.AtMost ts ws = refl
 comparison_wanted comparisons.Greater ts ws = refl
 comparison_wanted comparisons.AtLeast ts ws = refl
 
--- what is wanted behind an expression: an operator, a comparison only where there is none yet
+-- what is wanted after an expression: an operator, a comparison only where there is none yet
 abbrev pub in_expr : Expr → Wanted
 in_expr (plain s) = the.InExpr
 in_expr (compared s op t) = the.InSum
@@ -112,24 +112,24 @@ mutual
   close_wanted (plain s) ts ws = refl
   close_wanted (compared s op t) ts ws = refl
 
--- what is wanted behind tokens, by what the first of them was found to be, where it may be no more than what is wanted behind that
+-- what is wanted after tokens, by what the first of them was found to be, where it may be no more than what is wanted after that
 abbrev read_by : Token → List Token → List Wanted → Option (List Wanted) → Option (List Wanted)
 read_by t ts ws found =
     let behind_it : Option (List Wanted) = elim found [ Some all ↦ Some (all ++ ws) | None ↦ wanted_behind t ws ] in
     elim behind_it [ Some vs ↦ wanted_after ts vs | None ↦ None ]
 
--- behind an expression a token that is no operator is read as if nothing more of the expression were wanted
+-- after an expression a token that is no operator is read as if nothing more of the expression were wanted
 no_operator : (e : Expr) (t : Token) (ts : List Token) (ws : List Wanted) → behind t the.InExpr ≡ None → behind t the.InSum ≡ None
     → wanted_after (t ∷ ts) (in_expr e ∷ ws) ≡ wanted_after (t ∷ ts) ws
 no_operator (plain s) t ts ws none nor = ap (read_by t ts ws) none
 no_operator (compared s op r) t ts ws none nor = ap (read_by t ts ws) nor
 
--- an expression, and a token behind it that is no operator
+-- an expression, and a token after it that is no operator
 ended : (e : Expr) (t : Token) (ts : List Token) (ws : List Wanted) → behind t the.InExpr ≡ None → behind t the.InSum ≡ None
     → wanted_after (expr_tokens e (t ∷ ts)) (the.Expr ∷ ws) ≡ wanted_after (t ∷ ts) ws
 ended e t ts ws none nor = expr_wanted e (t ∷ ts) ws ∙ no_operator e t ts ws none nor
 
--- Names, and the sign behind them.
+-- Names, and the sign after them.
 more_params : (xs : List (List ℕ)) (ts : List Token) (ws : List Wanted)
     → wanted_after (behind_commas name_tokens xs (sign signs.Semicolon ∷ ts)) (the.MoreParams ∷ ws) ≡ wanted_after ts ws
 more_params [] ts ws = refl
@@ -173,7 +173,7 @@ first_expr : (e : Expr) (ts : List Token) (ws : List Wanted)
 first_expr (plain s) ts ws = first_sum s ts ws
 first_expr (compared s op t) ts ws = first_sum s (sign (comparison_sign op) ∷ sum_tokens t ts) ws
 
--- so does one behind a comma
+-- so does one after a comma
 next_unary : (u : Unary) (ts : List Token) (ws : List Wanted)
     → wanted_after (unary_tokens u ts) (the.NextArg ∷ ws) ≡ wanted_after (unary_tokens u ts) (the.Expr ∷ ws)
 next_unary (negated u) ts ws = refl
@@ -208,7 +208,7 @@ args : (es : List Expr) (ts : List Token) (ws : List Wanted)
 args [] ts ws = refl
 args (e ∷ es) ts ws = first_expr e (behind_commas expr_tokens es (sign signs.Semicolon ∷ ts)) ws ∙ more_args e es ts ws
 
--- a reference, and a token behind it that begins no index
+-- a reference, and a token after it that begins no index
 one_ref : (r : NamedCown) (t : Token) (ts : List Token) (ws : List Wanted) → behind t the.Index ≡ None
     → wanted_after (ref_tokens r (t ∷ ts)) (the.NextRef ∷ ws) ≡ wanted_after (t ∷ ts) ws
 one_ref (alone x) t ts ws none = ap (read_by t ts ws) none
@@ -242,12 +242,12 @@ no_else (next (if_else e a c) b) ts ws = refl
 no_else (next (repeat e a) b) ts ws = refl
 no_else (next (when f es rs) b) ts ws = refl
 
--- an expression, and the semicolon behind it
+-- an expression, and the semicolon after it
 written : (e : Expr) (ts : List Token) (ws : List Wanted)
     → wanted_after (expr_tokens e (sign signs.Semicolon ∷ ts)) (the.Expr ∷ the.Semicolon ∷ ws) ≡ wanted_after ts ws
 written e ts ws = ended e (sign signs.Semicolon) ts (the.Semicolon ∷ ws) refl refl
 
--- an expression, and the block behind it
+-- an expression, and the block after it
 guarded : (e : Expr) (b : Block) (ts : List Token) (ws : List Wanted)
     → wanted_after (expr_tokens e (braced_tokens b ts)) (the.Expr ∷ the.OpenBlock ∷ the.Stmts ∷ ws)
     ≡ wanted_after (block_tokens b (sign signs.CloseBlock ∷ ts)) (the.Stmts ∷ ws)
@@ -280,7 +280,7 @@ mutual
   block_wanted done ts ws = refl
   block_wanted (next s b) ts ws = stmt_wanted s b ts ws ∙ block_wanted b ts ws
 
--- the tokens of defs, and of main behind them
+-- the tokens of defs, and of main after them
 abbrev pub defs_tokens : List Def → Block → List Token
 defs_tokens ds b = each_tokens def_tokens ds (keyword keywords.Main ∷ braced_tokens b [])
 
@@ -318,12 +318,12 @@ cowns_wanted (c ∷ cs) ds b m =
     ∙ value_wanted c.negative c.value rest (the.Cowns ∷ [])
     ∙ cowns_wanted cs ds b m.1
 
--- all tokens of a tree whose arrays have members are wanted, and nothing behind them
+-- all tokens of a tree whose arrays have members are wanted, and nothing after them
 pub whole_wanted : (ts : List Token) → AreWhole ts → wanted_after ts (the.Cowns ∷ []) ≡ Some []
 whole_wanted ts w =
     ap (λ (ts : List Token). wanted_after ts (the.Cowns ∷ [])) w.tokens_are ∙ cowns_wanted w.tree.cowns w.tree.defs w.tree.main w.arrays
 
--- tokens behind one that is stray
+-- tokens after one that is stray
 stray_on : (ts more : List Token) (found : Option (List Wanted))
     → ((us : List Wanted) → wanted_after ts us ≡ None → wanted_after (ts ++ more) us ≡ None)
     → ◌≡◌ {A = Option (List Wanted)} (elim found [ Some us ↦ wanted_after ts us | None ↦ None ]) None

@@ -32,7 +32,7 @@ use Rattle.boc_reader.proofs.Wanting.{operand, inside, in_expr, defs_tokens}
 abbrev pub room : ℕ → ℕ → ℕ → ℕ → Room
 room k d n l = record { cowns = k; defs = d; nodes = n; listed = l }
 
--- The room that a phrase takes, and behind it so much more.
+-- The room that a phrase takes, and after it so much more.
 
 abbrev mutual
   pub expr_room : Expr → ℕ → ℕ
@@ -60,7 +60,7 @@ abbrev pub args_room : List Expr → ℕ → ℕ
 args_room [] n = n
 args_room (e ∷ es) n = expr_room e (args_room es n)
 
--- behind the name of a reference, which is a node
+-- after the name of a reference, which is a node
 abbrev pub index_room : NamedCown → ℕ → ℕ
 index_room (alone x) n = n
 index_room (member x e) n = expr_room e n
@@ -231,19 +231,19 @@ module _ (k d l : ℕ) where
         ∙ expr_within e n (sign signs.Close ∷ ts) (the.Close ∷ inside c ∷ ws)
         ∙ close_within k d n l ts (inside c ∷ ws) e
 
--- what follows tokens, by what the first of them was found to be, where it may be no more than what is wanted behind that
+-- what follows tokens, by what the first of them was found to be, where it may be no more than what is wanted after that
 abbrev pub within_by : Token → List Token → Wanted → List Wanted → Room → Option (List Wanted) → Option Within
 within_by t ts w ws r found =
     let behind_it : Option Within = elim found [ Some all ↦ with_room (all ++ ws) (left_behind t (ts ++ []) w r) | None ↦ within_behind t (ts ++ []) ws r ] in
     elim behind_it [ Some s ↦ read_all ts s.wanted s.room | None ↦ None ]
 
--- behind an expression a token that is no operator is read as if nothing more of the expression were wanted
+-- after an expression a token that is no operator is read as if nothing more of the expression were wanted
 pub no_operator : (e : Expr) (t : Token) (ts : List Token) (ws : List Wanted) (r : Room) → behind t the.InExpr ≡ None → behind t the.InSum ≡ None
     → read_all (t ∷ ts) (in_expr e ∷ ws) r ≡ read_all (t ∷ ts) ws r
 no_operator (plain s) t ts ws r none nor = ap (within_by t ts the.InExpr ws r) none
 no_operator (compared s op q) t ts ws r none nor = ap (within_by t ts the.InSum ws r) nor
 
--- an expression, and a token behind it that is no operator
+-- an expression, and a token after it that is no operator
 ended : (k d l : ℕ) (e : Expr) (n : ℕ) (t : Token) (ts : List Token) (ws : List Wanted) → behind t the.InExpr ≡ None → behind t the.InSum ≡ None
     → read_all (expr_tokens e (t ∷ ts)) (the.Expr ∷ ws) (room k d (expr_room e n) l) ≡ read_all (t ∷ ts) ws (room k d n l)
 ended k d l e n t ts ws none nor = expr_within k d l e n (t ∷ ts) ws ∙ no_operator e t ts ws (room k d n l) none nor
@@ -310,7 +310,7 @@ module _ (k d : ℕ) where
   first_expr (plain s) n ts ws = first_sum s n ts ws
   first_expr (compared s op t) n ts ws = first_sum s n (sign (comparison_sign op) ∷ sum_tokens t ts) ws
 
-  -- so does one behind a comma
+  -- so does one after a comma
   pub next_unary : (u : Unary) (n l : ℕ) (ts : List Token) (ws : List Wanted)
       → read_all (unary_tokens u ts) (the.NextArg ∷ ws) (room k d n (suc l))
       ≡ read_all (unary_tokens u ts) (the.Expr ∷ ws) (room k d n l)
@@ -362,7 +362,7 @@ module _ (k d : ℕ) where
       ∙ ap (λ (l : ℕ). read_all (expr_tokens e rest) (the.Expr ∷ the.MoreArgs ∷ ws) (room k d (expr_room e (args_room es n)) l)) enough
       ∙ more_args e es n left ts ws
 
-  -- a reference, and a token behind it that begins no index
+  -- a reference, and a token after it that begins no index
   one_ref : (r : NamedCown) (n l : ℕ) (t : Token) (ts : List Token) (ws : List Wanted) → behind t the.Index ≡ None
       → read_all (ref_tokens r (t ∷ ts)) (the.NextRef ∷ ws) (room k d (suc (index_room r n)) (suc l)) ≡ read_all (t ∷ ts) ws (room k d n l)
   one_ref (alone x) n l t ts ws none = ap (within_by t ts the.Index ws (room k d n l)) none
@@ -406,13 +406,13 @@ no_else (next (repeat e a) b) ts ws r = refl
 no_else (next (when f es rs) b) ts ws r = refl
 
 module _ (k d : ℕ) where
-  -- an expression, and the semicolon behind it
+  -- an expression, and the semicolon after it
   written : (e : Expr) (n : ℕ) (ts : List Token) (ws : List Wanted)
       → read_all (expr_tokens e (sign signs.Semicolon ∷ ts)) (the.Expr ∷ the.Semicolon ∷ ws) (room k d (expr_room e n) 0)
       ≡ read_all ts ws (room k d n 0)
   written e n ts ws = ended k d 0 e n (sign signs.Semicolon) ts (the.Semicolon ∷ ws) refl refl
 
-  -- an expression, and the block behind it
+  -- an expression, and the block after it
   guarded : (e : Expr) (b : Block) (n : ℕ) (ts : List Token) (ws : List Wanted)
       → read_all (expr_tokens e (braced_tokens b ts)) (the.Expr ∷ the.OpenBlock ∷ the.Stmts ∷ ws) (room k d (expr_room e n) 0)
       ≡ read_all (block_tokens b (sign signs.CloseBlock ∷ ts)) (the.Stmts ∷ ws) (room k d n 0)
@@ -540,7 +540,7 @@ shape_within ts t s =
           ∙ read.1,
     )
 
--- tokens behind one that passes a limit
+-- tokens after one that passes a limit
 over_on : (ts more after : List Token) (found : Option Within)
     → ((s : Within) → within_after ts (more ++ after) s.wanted s.room ≡ None → within_after (ts ++ more) after s.wanted s.room ≡ None)
     → ◌≡◌ {A = Option Within} (elim found [ Some s ↦ within_after ts (more ++ after) s.wanted s.room | None ↦ None ]) None
@@ -557,7 +557,7 @@ still_over (t ∷ ts) more after ws r e =
     (sym (append_assoc ts more after))
     (over_on ts more after (within_behind t (ts ++ (more ++ after)) ws r) (λ s d. still_over ts more after s.wanted s.room d) e)
 
--- tokens that were read, and what is read behind them
+-- tokens that were read, and what is read after them
 behind_within : (ts more after : List Token) (found : Option Within) (s : Within)
     → ((q : Within) → within_after ts (more ++ after) q.wanted q.room ≡ Some s
     → within_after (ts ++ more) after q.wanted q.room ≡ within_after more after s.wanted s.room)
@@ -578,7 +578,7 @@ within_append (t ∷ ts) more after ws r s e =
     ap goes_on (append_assoc ts more after)
     ∙ behind_within ts more after (within_behind t (ts ++ (more ++ after)) ws r) s (λ q d. within_append ts more after q.wanted q.room s d) e
 
--- Of the tokens behind a token the first one alone is looked at.
+-- Of the tokens after a token the first one alone is looked at.
 cown_same : (h : Token) (a b : List Token) (r : Room) → left_in_cown (h ∷ a) r ≡ left_in_cown (h ∷ b) r
 cown_same (sign signs.OpenIndex) a b r = refl
 cown_same _ a b r = refl
@@ -611,7 +611,7 @@ before_same (u ∷ v ∷ us) t a b ws r =
     (behind_same u v (us ++ t ∷ a) (us ++ t ∷ b) ws r)
     ∙ each_same (v ∷ us) (t ∷ a) (t ∷ b) (within_behind u (v ∷ (us ++ t ∷ b)) ws r) (λ q. before_same (v ∷ us) t a b q.wanted q.room)
 
--- A token that passes a limit in front of some tokens: whatever others follow it, they aren't read to the end of a text.
+-- A token that passes a limit before some tokens: whatever others follow it, they aren't read to the end of a text.
 abbrev NotRead : Option Within → Type 0
 NotRead found = IsRead found → ⊥
 
@@ -628,7 +628,7 @@ no_room n r e =
 none_taken : (n : ℕ) (r : Room) → r.cowns < n → take_cowns n r ≡ None
 none_taken n r less = rw (lt-leb n r.cowns less) refl
 
--- more is wanted behind them
+-- more is wanted after them
 wanted_not_read : (w : Wanted) (ws : List Wanted) (r : Room) → NotRead (Some (record { wanted = w ∷ ws; room = r }))
 wanted_not_read w ws r read =
     let last : Within = record { wanted = w ∷ ws; room = r } in
@@ -662,7 +662,7 @@ at_cown (sign signs.OpenIndex ∷ more) ws r none read = at_members more ws r no
 at_cown (t ∷ more) ws r none read =
     none_not_read (within_left (t ∷ more) (the.Size ∷ ws) (take_cowns 1 r)) (ap (within_left (t ∷ more) (the.Size ∷ ws)) (none_taken 1 r none)) read
 
--- what is left does not depend on what stands behind a token, but where it is the name of a cown
+-- what is left does not depend on what comes after a token, but where it is the name of a cown
 over_left : (t : Token) (after more : List Token) (w : Wanted) (all ws : List Wanted) (r : Room) → behind t w ≡ Some all → left_behind t after w r ≡ None
     → NotRead (within_left more (all ++ ws) (left_behind t (more ++ []) w r))
 over_left (name x) after more the.CownName all ws r is e read =
@@ -683,7 +683,7 @@ no_room_is_none : (ws : List Wanted) (found : Option Room) → with_room ws foun
 no_room_is_none ws None e = refl
 no_room_is_none ws (Some q) e = absurd cc
 
--- what follows a token, by what was wanted behind it
+-- what follows a token, by what was wanted after it
 abbrev goes_on : Token → List Token → Wanted → List Wanted → Room → Bool → Option (List Wanted) → Option Within
 goes_on t more w ws r may found =
     let behind_it : Option Within =
@@ -704,7 +704,7 @@ over_at t after more [] r e read = none_not_read None refl read
 over_at t after more (w ∷ ws) r e read =
     over_by t after more w ws r (behind t w) (may_be_left_out w) refl e (λ none. over_at t after more ws r none) read
 
--- no tree within the limits begins with tokens that pass none, and one behind them that does
+-- no tree within the limits begins with tokens that pass none, and one after them that does
 pub over_begins_none : (ts after more : List Token) (t : Token) (s : Within) (tree : Tree) → within_after ts (t ∷ after) (the.Cowns ∷ []) room_of_text ≡ Some s
     → within_behind t after s.wanted s.room ≡ None → HasShape ((ts ++ t ∷ []) ++ more) tree → ⊥
 over_begins_none ts after more t s tree e none shape =

@@ -70,7 +70,7 @@ StandsInShape wrong fault text = StandsIn fault text × ShapeFaultStandsAt wrong
 abbrev pub StandsAtName : NameFault → ReadFault → List ℕ → Type 0
 StandsAtName wrong fault text = StandsIn fault text × NameGoesWrong wrong text fault.at
 
--- The place that is told with a kind of fault: that of the first byte too many where the text is too long, none where memory was refused, that of the
+-- The place that is reported with a kind of fault: that of the first byte too many where the text is too long, none where memory was refused, that of the
 -- first byte of the first fault where the text has no tokens, that of the first token, or the end, that the grammar doesn't allow, that of the first token
 -- with which a limit is passed, and that of the first byte of the first wrong name where its names can't be resolved.
 abbrev pub TellsPlace : ReadFaultKind → ReadFault → List ℕ → Type 0

@@ -67,7 +67,7 @@ sum_phrase = record { tokens = sum_tokens; nodes = sum_nodes; Ends = λ _. EndsS
 abbrev pub term_phrase : Phrase Term
 term_phrase = record { tokens = term_tokens; nodes = term_nodes; Ends = λ _. NoOperator term_sign; IsSmall = λ _. Unit {0} }
 
--- a factor, behind minuses or without one
+-- a factor, after minuses or without one
 abbrev pub unary_phrase : Phrase Unary
 unary_phrase = record { tokens = unary_tokens; nodes = unary_nodes; Ends = λ _ _. Unit {0}; IsSmall = λ _. Unit {0} }
 
@@ -111,11 +111,11 @@ more_terms_phrase = tail_phrase sum_sign sum_phrase
 abbrev pub more_factors_phrase : Phrase (Option (TermOperator × Term))
 more_factors_phrase = tail_phrase term_sign term_phrase
 
--- a phrase, and the sign behind it
+-- a phrase, and the sign after it
 abbrev pub closed_phrase : {X : Type 0} → Phrase X → Sign → Phrase X
 closed_phrase kind close = record { tokens = λ x rest. kind.tokens x (sign close ∷ rest); nodes = kind.nodes; Ends = λ _ _. Unit {0}; IsSmall = kind.IsSmall }
 
--- a phrase, and one of another kind behind it
+-- a phrase, and one of another kind after it
 abbrev pub pair_phrase : {X Y : Type 0} → Phrase X → Phrase Y → Phrase (X × Y)
 pair_phrase first second = record {
   tokens = λ p rest. first.tokens p.0 (second.tokens p.1 rest);
@@ -124,7 +124,7 @@ pair_phrase first second = record {
   IsSmall = λ p. first.IsSmall p.0 × second.IsSmall p.1;
 }
 
--- at most eight of a kind, and the sign behind them
+-- at most eight of a kind, and the sign after them
 abbrev pub list_phrase : {X : Type 0} → Phrase X → Sign → Phrase (List X)
 list_phrase kind close = record {
   tokens = λ xs rest. list_tokens kind.tokens xs (sign close ∷ rest);
@@ -146,7 +146,7 @@ EndsRef (member x e) rest = Unit {0}
 abbrev pub ref_phrase : Phrase NamedCown
 ref_phrase = record { tokens = ref_tokens; nodes = ref_nodes; Ends = EndsRef; IsSmall = λ _. Unit {0} }
 
--- what stands behind a name that is written to
+-- what comes after a name that is written to
 abbrev pub written_phrase : Phrase Expr
 written_phrase = record { tokens = written_tokens; nodes = expr_nodes; Ends = λ _ _. Unit {0}; IsSmall = λ _. Unit {0} }
 
@@ -171,7 +171,7 @@ call_phrase = record {
 abbrev pub braced_phrase : Phrase Block
 braced_phrase = record { tokens = braced_tokens; nodes = block_nodes; Ends = λ _ _. Unit {0}; IsSmall = IsSmallBlock }
 
--- statements, and the brace behind them
+-- statements, and the brace after them
 abbrev pub block_phrase : Phrase Block
 block_phrase = record { tokens = λ b rest. block_tokens b (sign CloseBlock ∷ rest); nodes = block_nodes; Ends = λ _ _. Unit {0}; IsSmall = IsSmallBlock }
 
@@ -230,11 +230,11 @@ abbrev pub EndsSize : Option ℕ → List Token → Type 0
 EndsSize None rest = NoSign OpenIndex rest
 EndsSize (Some n) rest = Unit {0}
 
--- what stands behind the name of a cown, and makes it an array
+-- what comes after the name of a cown, and makes it an array
 abbrev pub size_phrase : Phrase (Option ℕ)
 size_phrase = record { tokens = size_tokens; nodes = members; Ends = EndsSize; IsSmall = HasMembers }
 
--- a value that a cown begins with, behind a minus or without one
+-- a value that a cown begins with, after a minus or without one
 abbrev pub initial_phrase : Phrase (Bool × ℕ)
 initial_phrase = record {
   tokens = λ v rest. sign Assign ∷ minus_tokens v.0 (number v.1 ∷ sign Semicolon ∷ rest);

@@ -1,4 +1,4 @@
--- What the pass that looks for the first wrong name says of each part of a tree, where n names stand before it and are right.
+-- What the pass that looks for the first wrong name says of each part of a tree, where n names come before it and are right.
 use Rattle.std.specs.Prelude.{◌≡◌, ℕ, ◌+◌, List, [], ◌∷◌, ◌++◌, length, Option, Some, None, Result, Ok, Err}
 use Rattle.boc_reader.specs.Shape.{Expr, plain, compared, Sum, one_term, more_terms, Term, one_factor, more_factors, Unary, negated, unsigned, Atom, literal}
 use Rattle.boc_reader.specs.Shape.{variable, parens, NamedCown, alone, member, Stmt, declare, assign, work, if_only, if_else, repeat, when, Block, done, next}
@@ -94,7 +94,7 @@ abbrev mutual
   block_verdict done outside scope n = right n
   block_verdict (next s b) outside scope n = if_right (stmt_verdict s outside scope n) (block_verdict b outside (scope_behind s scope))
 
--- a block behind an expression
+-- a block after an expression
 abbrev pub guarded_verdict : Expr → Block → Outside → List Named → ℕ → Verdict
 guarded_verdict e b outside scope n = if_right (expr_verdict e scope n) (block_verdict b outside scope)
 
@@ -129,7 +129,7 @@ bodies_verdict t top n = if_right (defs_verdict top (declared_cowns t) t.defs n)
 abbrev pub tree_verdict : Tree → Verdict
 tree_verdict t = if_right (cowns_verdict [] (declared_cowns t) 0) (bodies_verdict t (first_declared t))
 
--- The name behind n others of these tokens begins at this byte.
+-- The name after n others of these tokens begins at this byte.
 pub record IsNameAt (ps : List Placed) (n at : ℕ) : Type 0 where
   pub before : List Placed
   pub count : length (names_of_tokens (tokens_of before)) ≡ n

@@ -20,3 +20,4 @@ pub mod FaultTexts
 pub mod Wanted
 pub mod Room
 pub mod WrongShape
+pub mod Expected

@@ -9,7 +9,7 @@ use Rattle.boc_reader.specs.Spells.{plain_program}
 use Rattle.boc_reader.specs.Listing.{AreLines, Signature, signature_of}
 use Rattle.boc_reader.specs.declared.listing.DefListing.{DefListing}
 
--- what a listing says of a def, but for its line
+-- what a listing says of a def, except for its line
 abbrev pub listed : DefListing → Signature
 listed d = record { name = d.name; params = d.params.items; cowns = d.cowns.items }
 

@@ -1,4 +1,4 @@
--- The defs of a text, listed beside the program that it spells.
+-- The defs of a text, listed with the program that it spells.
 use Rattle.std.specs.Prelude.{◌≡◌, ℕ, ◌+◌, ◌<◌, List, [], ◌∷◌, length, map, take, drop, slice_index}
 use Rattle.boc_reader.specs.Tokens.{Token, keyword}
 use Rattle.boc_reader.specs.Shape.{Block, Def, braced_tokens, def_tokens, each_tokens}
@@ -22,11 +22,11 @@ signature_of d = record { name = d.name; params = d.params; cowns = d.cowns }
 abbrev pub main_tokens : Block → List Token
 main_tokens main = keyword Main ∷ braced_tokens main []
 
--- the tokens from the name of the first of these defs on, to the end of the text: what stands behind its keyword
+-- the tokens from the name of the first of these defs on, to the end of the text: what comes after its keyword
 abbrev pub from_name : List Def → Block → List Token
 from_name defs main = drop 1 (each_tokens def_tokens defs (main_tokens main))
 
--- each def has as many tokens left as there are from its name on, where these stand behind the defs
+-- each def has as many tokens left as there are from its name on, where these come after the defs
 abbrev pub AreLeft : List DefShape → List Token → Type 0
 AreLeft [] rest = Unit {0}
 AreLeft (d ∷ ds) rest = (length (each_tokens def_tokens (map def_of (d ∷ ds)) rest) ≡ d.left + 1) × AreLeft ds rest

@@ -56,7 +56,7 @@ alone_fault (Some parameter) found = None
 alone_fault None (Some g) = if is_some g.size then Some WrongCount else None
 alone_fault None None = Some UnknownName
 
--- what is wrong with the name of a cown in front of an index, which is for an array alone
+-- what is wrong with the name of a cown before an index, which is for an array alone
 abbrev pub member_fault : Option ℕ → Option Global → Option NameFault
 member_fault parameter (Some g) = if is_some g.size then None else Some WrongCount
 member_fault (Some parameter) None = Some WrongCount
@@ -82,7 +82,7 @@ call_uses outside scope f es rs =
 abbrev pub free_fault : Top → List Named → Named → Option NameFault
 free_fault top scope x = if is_free top scope x then None else Some NameTaken
 
--- the names in scope behind a statement
+-- the names in scope after a statement
 abbrev pub scope_behind : Stmt → List Named → List Named
 scope_behind (declare x e) scope = scope ++ x ∷ []
 scope_behind (assign x e) scope = scope
@@ -103,12 +103,12 @@ abbrev mutual
   stmt_uses (repeat e b) outside scope = expr_uses e scope ++ block_uses b outside scope
   stmt_uses (when f es rs) outside scope = call_uses outside scope f es rs
 
-  -- the names that a block declares are free again behind it
+  -- the names that a block declares are free again after it
   pub block_uses : Block → Outside → List Named → List Use
   block_uses done outside scope = []
   block_uses (next s b) outside scope = stmt_uses s outside scope ++ block_uses b outside (scope_behind s scope)
 
--- parameters, each of which is in scope for those behind it
+-- parameters, each of which is in scope for those after it
 abbrev pub parameter_uses : Top → List Named → List Named → List Use
 parameter_uses top scope [] = []
 parameter_uses top scope (x ∷ xs) = judged x (free_fault top scope x) ∷ parameter_uses top (scope ++ x ∷ []) xs

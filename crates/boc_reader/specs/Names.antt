@@ -80,7 +80,7 @@ multiplies terms.Remainder = operators.Remainder
 abbrev pub Left : Type 0
 Left = Option (resolved.SlotExpr × Operator)
 
--- an operand, behind what stands to its left
+-- an operand, after what stands to its left
 abbrev pub joined : Left → resolved.SlotExpr → resolved.SlotExpr
 joined None e = e
 joined (Some l) e = resolved.Binary l.1 l.0 e
@@ -198,7 +198,7 @@ abbrev mutual
       option_and_then (λ v. option_map (λ a. (Loop v a, scope)) (block_names b outside scope)) (expr_names e scope)
   stmt_names (when f es rs) outside scope = option_map (λ s. (s, scope)) (call_names outside scope f es rs)
 
-  -- the names that a block declares are free again behind it
+  -- the names that a block declares are free again after it
   pub block_names : Block → Outside → List Named → Option resolved.Code
   block_names done outside scope = Some resolved.Done
   block_names (next s b) outside scope =
@@ -262,12 +262,12 @@ callees ds = map (λ d. let c : Callee = record { name = d.name; args = length d
 abbrev pub top_of : Tree → Top
 top_of t = record { cowns = globals 0 t.cowns; defs = callees t.defs }
 
--- no name stands twice
+-- no name occurs twice
 abbrev pub are_distinct : List Named → Bool
 are_distinct [] = true
 are_distinct (x ∷ xs) = not (among xs x) && are_distinct xs
 
--- the number behind its minus, or without one
+-- the number after its minus, or without one
 abbrev pub initial_value : Cown → ℤ
 initial_value c = if c.negative then neg_ℤ (pos c.value) else pos c.value
 

@@ -30,7 +30,7 @@ pub record Stands {X : Type 0} (kind : Phrase X) (ahead : Ahead) (x : X) (rest :
 abbrev pub NoneStands : {X : Type 0} → Phrase X → Ahead → Type 0
 NoneStands {X} kind ahead = (x : X) (rest : List Token) → Stands kind ahead x rest → ⊥
 
--- the phrase that was read stands ahead; after a refusal, but for want of memory, none does
+-- the phrase that was read stands ahead; after a refusal, except for want of memory, none does
 abbrev pub Parses : {X Y : Type 0} → Phrase X → (Y → X) → Ahead → Result Y (Fault ShapeFault) → Ahead → Type 0
 Parses kind view old (Ok y) new = Stands kind old (view y) new.tokens × (kind.nodes (view y) + new.room ≡ old.room)
 Parses kind view old (Err fault) new = Refusal fault (NoneStands kind old)

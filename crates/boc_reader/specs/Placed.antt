@@ -22,7 +22,7 @@ token_of (tokens.Sign s) = the.sign s
 abbrev pub tokens_of : List Placed → List the.Token
 tokens_of ps = map (λ p. token_of p.token) ps
 
--- the byte at which the first of these tokens begins; where there is none, a byte behind every text
+-- the byte at which the first of these tokens begins; where there is none, a byte after every text
 abbrev pub position_of : List Placed → ℕ
 position_of [] = MOST_TEXT
 position_of (p ∷ ps) = p.at
@@ -46,7 +46,7 @@ pub record BeginsAt (text : List ℕ) (at : ℕ) (tokens : List the.Token) : Typ
   pub begins : BeginsToken (drop at text)
   pub has_tokens : tokens_of_text (drop at text) ≡ Some tokens
 
--- each of these tokens begins at its place, with those behind it
+-- each of these tokens begins at its place, with those after it
 abbrev pub ArePlaced : List ℕ → List Placed → Type 0
 ArePlaced text [] = Unit {0}
 ArePlaced text (p ∷ ps) = BeginsAt text p.at (tokens_of (p ∷ ps)) × ArePlaced text ps
@@ -55,3 +55,15 @@ ArePlaced text (p ∷ ps) = BeginsAt text p.at (tokens_of (p ∷ ps)) × ArePlac
 abbrev pub AreReached : List ℕ → List the.Token → List Placed → Type 0
 AreReached text before [] = Unit {0}
 AreReached text before (p ∷ ps) = HasRead text (drop p.at text) before × AreReached text (before ++ token_of p.token ∷ []) ps
+
+-- up to the end of each of these tokens the text was read, as those before it and this one
+abbrev pub AreEnded : List ℕ → List the.Token → List Placed → Type 0
+AreEnded text before [] = Unit {0}
+AreEnded text before (p ∷ ps) = HasRead text (drop p.end text) (before ++ token_of p.token ∷ []) × AreEnded text (before ++ token_of p.token ∷ []) ps
+
+-- these are the tokens of a text, each between its places
+pub record AreTokens (ps : List Placed) (text : List ℕ) : Type 0 where
+  pub has_tokens : tokens_of_text text ≡ Some (tokens_of ps)
+  pub placed : ArePlaced text ps
+  pub reached : AreReached text [] ps
+  pub ended : AreEnded text [] ps

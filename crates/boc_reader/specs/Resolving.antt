@@ -26,7 +26,7 @@ Yields view (Ok y) found = found ≡ Some (view y)
 Yields view (Err Memory) found = Unit {0}
 Yields view (Err WrongName) found = found ≡ None
 
--- the same of a statement, with the names in scope behind it
+-- the same of a statement, with the names in scope after it
 abbrev pub YieldsIn : {X Y : Type 0} → (Y → X) → Result Y Unresolved → List Named → Option (X × List Named) → Type 0
 YieldsIn view (Ok y) scope found = found ≡ Some (view y, scope)
 YieldsIn view (Err Memory) scope found = Unit {0}
@@ -40,7 +40,7 @@ names_of ns = map (λ n. n.now) ns
 abbrev pub left_of : Option (Expr × Operator) → Left
 left_of left = option_map (λ l. (slot_expr_of l.0, l.1)) left
 
--- a statement without those behind it
+-- a statement without those after it
 abbrev pub resolved_stmt_of : Stmt → ResolvedStmt
 resolved_stmt_of (stmts.Assign slot e) = Set slot (slot_expr_of e)
 resolved_stmt_of (stmts.Work e) = Spend (slot_expr_of e)
@@ -101,13 +101,13 @@ global_at n c = record { name = c.name; first = n; size = c.size }
 abbrev pub callee_for : Def → Callee
 callee_for d = record { name = d.name; args = length d.params; cowns = length d.cowns }
 
--- the cowns behind others, where no name stands twice
+-- the cowns after others, where no name occurs twice
 abbrev pub cowns_behind : List Global → ℕ → List Cown → Option (List Global)
 cowns_behind before n [] = Some before
 cowns_behind before n (c ∷ cs) =
     if among (cown_names before) c.name then None else cowns_behind (before ++ global_at n c ∷ []) (n + members c.size) cs
 
--- the defs behind others, where the first def of a name counts, and none that has a cown's name
+-- the defs after others, where the first def of a name counts, and none that has a cown's name
 abbrev pub defs_behind : List Global → List Callee → List Def → List Callee
 defs_behind cowns before [] = before
 defs_behind cowns before (d ∷ ds) =
@@ -118,7 +118,7 @@ defs_behind cowns before (d ∷ ds) =
 abbrev pub def_names : Top → Def → Option PlainBody
 def_names top d = body_names top d.params d.cowns d.block
 
--- the bodies of defs, where none of them has a name that stands before it
+-- the bodies of defs, where none of them has a name that comes before it
 abbrev pub bodies_behind : Top → List Named → List Def → Option (List PlainBody)
 bodies_behind top before [] = Some []
 bodies_behind top before (d ∷ ds) =

@@ -1,12 +1,13 @@
--- How much more may stand in a text, token by token, until a limit is passed.
-use Rattle.std.specs.Prelude.{ℕ, zero, suc, ◌-◌, nat_le, if◌then◌else◌, List, [], ◌∷◌, ◌++◌, Option, Some, None}
+-- How much more may be in a text, token by token, until a limit is passed.
+use Rattle.std.specs.Prelude.{ℕ, zero, suc, ◌-◌, nat_le, if◌then◌else◌, List, [], ◌∷◌, ◌++◌, length, ◌==◌, Bool, is_some, Option, Some, None}
 use Rattle.boc_program.specs.declared.limits.TheConstants.{MOST_COWNS, MOST_DEFS, MOST_NODES}
 use Rattle.boc_reader.specs.declared.parse.TheConstants.{MOST_LISTED}
 use Rattle.boc_reader.specs.declared.terminal.Keyword.TheVariants as keywords
 use Rattle.boc_reader.specs.declared.terminal.Sign.TheVariants as signs
 use Rattle.boc_reader.specs.declared.room.Room.{Room}
 use Rattle.boc_reader.specs.declared.wanted.Wanted.{Wanted}
-use Rattle.boc_reader.specs.declared.wanted.Wanted.TheVariants.{Cowns, Defs, Members, Params, MoreParams, Held, MoreHeld, Stmts, Args, MoreArgs, Refs, MoreRefs}
+use Rattle.boc_reader.specs.declared.wanted.Wanted.TheVariants.{Cowns, Defs, Members, Params, MoreParams, Held}
+use Rattle.boc_reader.specs.declared.wanted.Wanted.TheVariants.{MoreHeld, Stmts, Args, MoreArgs, Refs, MoreRefs}
 use Rattle.boc_reader.specs.declared.wanted.Wanted.TheVariants.{Expr, InExpr, Sum, InSum, CownName, NextName, NextArg, NextRef}
 use Rattle.boc_reader.specs.Tokens.{Token, name, number, keyword, sign}
 use Rattle.boc_reader.specs.Wanted.{behind, may_be_left_out}
@@ -47,7 +48,7 @@ take_listed r = elim r.listed [ suc n ↦ Some (record r { listed = n }) | zero 
 abbrev pub take_node_listed : Room → Option Room
 take_node_listed r = elim (take_listed r) [ Some q ↦ take_node q | None ↦ None ]
 
--- what is left behind a token where a def or main may begin
+-- what is left after a token where a def or main may begin
 abbrev pub left_in_defs : Token → Room → Option Room
 left_in_defs (keyword keywords.Def) r = take_def (with_body r)
 left_in_defs t r = Some (with_body r)
@@ -57,42 +58,42 @@ abbrev pub left_in_cowns : Token → Room → Option Room
 left_in_cowns (keyword keywords.Cown) r = Some r
 left_in_cowns t r = left_in_defs t r
 
--- Behind the name of a cown, in front of these tokens: it is a cown more, but that of an array, whose size tells how many there are.
+-- After the name of a cown, before these tokens: it is a cown more, but that of an array, whose size says how many there are.
 abbrev pub left_in_cown : List Token → Room → Option Room
 left_in_cown (sign signs.OpenIndex ∷ ts) r = Some r
 left_in_cown ts r = take_cowns 1 r
 
--- behind the size of an array: so many cowns more
+-- after the size of an array: so many cowns more
 abbrev pub left_in_size : Token → Room → Option Room
 left_in_size (number n) r = take_cowns n r
 left_in_size t r = Some r
 
--- where a statement or the brace behind it may stand
+-- where a statement or the brace after it may be
 abbrev pub left_in_stmts : Token → Room → Option Room
 left_in_stmts (sign s) r = Some r
 left_in_stmts t r = take_node r
 
--- where the first of a list of names may stand, or the sign behind it
+-- where the first of a list of names may be, or the sign after it
 abbrev pub left_in_names : Token → Room → Option Room
 left_in_names (name x) r = take_listed (with_list r)
 left_in_names t r = Some r
 
--- where the first of a list of references may stand, or the sign behind it
+-- where the first of a list of references may be, or the sign after it
 abbrev pub left_in_refs : Token → Room → Option Room
 left_in_refs (name x) r = take_node_listed (with_list r)
 left_in_refs t r = Some r
 
--- where the first of a list of expressions may stand, or the sign behind it
+-- where the first of a list of expressions may be, or the sign after it
 abbrev pub left_in_args : Token → Room → Option Room
 left_in_args (sign signs.Semicolon) r = Some r
 left_in_args t r = take_node_listed (with_list r)
 
--- behind one of a list, where a comma or the sign behind it may stand: what follows a comma counts where it begins
+-- after one of a list, where a comma or the sign after it may be: what follows a comma counts where it begins
 abbrev pub left_in_list : Token → Room → Option Room
 left_in_list (sign signs.Comma) r = Some r
 left_in_list t r = Some (without_list r)
 
--- The room that is left behind a token which is what was wanted, in front of these tokens, or none where it passes a limit.
+-- The room that is left after a token which is what was wanted, before these tokens, or none where it passes a limit.
 abbrev pub left_behind : Token → List Token → Wanted → Room → Option Room
 left_behind t after Cowns r = left_in_cowns t r
 left_behind t after Defs r = left_in_defs t r
@@ -121,18 +122,23 @@ pub record Within : Type 0 where
   pub wanted : List Wanted
   pub room : Room
 
--- what is wanted behind a token, and the room there
+-- what is wanted after a token, and the room there
 abbrev pub with_room : List Wanted → Option Room → Option Within
 with_room ws found = elim found [ Some q ↦ Some (record { wanted = ws; room = q }) | None ↦ None ]
 
--- What is wanted of the rest of a text behind a token, in front of these tokens, and the room there. It is none where the token can't stand there, or
+-- What is wanted of the rest of a text after a token, before these tokens, and the room there. It is none where the token can't be there, or
 -- passes a limit.
 abbrev pub within_behind : Token → List Token → List Wanted → Room → Option Within
 within_behind t after [] r = None
 within_behind t after (w ∷ ws) r =
     elim (behind t w) [ Some all ↦ with_room (all ++ ws) (left_behind t after w r) | None ↦ if may_be_left_out w then within_behind t after ws r else None ]
 
--- the same behind several tokens, in front of these
+-- the same after several tokens, before these
 abbrev pub within_after : List Token → List Token → List Wanted → Room → Option Within
 within_after [] after ws r = Some (record { wanted = ws; room = r })
 within_after (t ∷ ts) after ws r = elim (within_behind t (ts ++ after) ws r) [ Some s ↦ within_after ts after s.wanted s.room | None ↦ None ]
+
+-- of these tokens the first may be where this is wanted, or there is none, and the text may end there
+abbrev pub goes_on : List Token → Within → Bool
+goes_on [] s = length s.wanted == 0
+goes_on (t ∷ ts) s = is_some (within_behind t [] s.wanted s.room)

@@ -121,7 +121,7 @@ abbrev mutual
   atom_tokens (variable x) rest = name x ∷ rest
   atom_tokens (parens e) rest = sign signs.Open ∷ expr_tokens e (sign signs.Close ∷ rest)
 
--- others of a kind, each behind a comma
+-- others of a kind, each after a comma
 abbrev pub behind_commas : {X : Type 0} → (X → List Token → List Token) → List X → List Token → List Token
 behind_commas tokens [] rest = rest
 behind_commas tokens (x ∷ xs) rest = sign signs.Comma ∷ tokens x (behind_commas tokens xs rest)
@@ -141,7 +141,7 @@ abbrev pub ref_tokens : NamedCown → List Token → List Token
 ref_tokens (alone x) rest = name x ∷ rest
 ref_tokens (member x e) rest = name x ∷ sign signs.OpenIndex ∷ expr_tokens e (sign signs.CloseIndex ∷ rest)
 
--- what stands behind a name that is written to
+-- what comes after a name that is written to
 abbrev pub written_tokens : Expr → List Token → List Token
 written_tokens e rest = sign signs.Assign ∷ expr_tokens e (sign signs.Semicolon ∷ rest)
 

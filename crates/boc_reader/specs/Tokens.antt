@@ -25,7 +25,7 @@ is_name_byte b = is_ascii_alphanumeric b || b == byte "_"
 abbrev pub is_blank : ℕ → Bool
 is_blank b = b == byte " " || b == byte "\t" || b == byte "\r" || b == byte "\n"
 
--- The text with blanks in place of its comments, whose bytes from 128 on stay. The test says whether it begins inside of one.
+-- The text with blanks instead of its comments, whose bytes from 128 on stay. The test says whether it begins inside of one.
 abbrev pub without_comments : Bool → List ℕ → List ℕ
 without_comments inside [] = []
 without_comments false (b ∷ bs) = if b == byte "#" then byte " " ∷ without_comments true bs else b ∷ without_comments false bs
@@ -37,12 +37,12 @@ pub data Piece : Type 0 where
   pair : ℕ → Piece
   single : ℕ → Piece
 
--- a byte in front of what has been cut: a run is as long as can be
+-- a byte before what has been cut: a run is as long as can be
 abbrev pub join : ℕ → List Piece → List Piece
 join b (run bs ∷ ps) = run (b ∷ bs) ∷ ps
 join b ps = run (b ∷ []) ∷ ps
 
--- a byte in front of what has been cut: it joins a run, or stands by itself
+-- a byte before what has been cut: it joins a run, or stands by itself
 abbrev pub in_front : ℕ → List Piece → List Piece
 in_front b ps = if is_name_byte b then join b ps else single b ∷ ps
 
@@ -132,7 +132,7 @@ pair_sign b = sign_of (b ∷ codes "=")
 abbrev pub single_sign : ℕ → Option Sign
 single_sign b = sign_of (b ∷ [])
 
--- a token in front of others, if it and they are tokens
+-- a token before others, if it and they are tokens
 abbrev pub put : Option Token → Option (List Token) → Option (List Token)
 put None ws = None
 put (Some w) None = None
@@ -149,7 +149,7 @@ tokens_of_pieces (single b ∷ ps) = if is_blank b then tokens_of_pieces ps else
 unfoldable pub tokens_of_text : List ℕ → Option (List Token)
 tokens_of_text text = tokens_of_pieces (cut (without_comments false text))
 
--- the byte and the first of those behind it are no sign of two bytes
+-- the byte and the first of those after it are no sign of two bytes
 abbrev pub IsApart : ℕ → List ℕ → Type 0
 IsApart b [] = Unit {0}
 IsApart b (c ∷ bs) = (begins_pair b && c == byte "=") ≡ false

@@ -10,7 +10,7 @@ use Rattle.boc_reader.specs.declared.wanted.Wanted.TheVariants.{Cowns, Defs, Nam
 use Rattle.boc_reader.specs.declared.wanted.Wanted.TheVariants.{Initial, Params, MoreParams, Held, MoreHeld, Stmts, Else, Args, MoreArgs, Refs, MoreRefs, Index}
 use Rattle.boc_reader.specs.declared.wanted.Wanted.TheVariants.{Expr, InExpr, Sum, InSum, CownName, NextName, NextArg, NextRef}
 
--- what is wanted behind a name, in place of what was wanted where it stands
+-- what is wanted after a name, instead of what was wanted where it stands
 abbrev pub behind_name : Wanted → Option (List Wanted)
 behind_name Name = Some []
 behind_name Params = Some (MoreParams ∷ [])
@@ -31,7 +31,7 @@ abbrev pub behind_size : ℕ → Option (List Wanted)
 behind_size zero = None
 behind_size (suc n) = Some []
 
--- what is wanted behind a number
+-- what is wanted after a number
 abbrev pub behind_number : ℕ → Wanted → Option (List Wanted)
 behind_number n Number = Some []
 behind_number n Members = behind_size n
@@ -42,7 +42,7 @@ behind_number n Sum = Some (InSum ∷ [])
 behind_number n NextArg = Some (InExpr ∷ [])
 behind_number n w = None
 
--- what is wanted behind a keyword that begins a statement
+-- what is wanted after a keyword that begins a statement
 abbrev pub in_statement : Keyword → Option (List Wanted)
 in_statement keywords.Let = Some (Name ∷ Assign ∷ Expr ∷ Semicolon ∷ Stmts ∷ [])
 in_statement keywords.Work = Some (Expr ∷ Semicolon ∷ Stmts ∷ [])
@@ -51,13 +51,13 @@ in_statement keywords.Repeat = Some (Expr ∷ OpenBlock ∷ Stmts ∷ Stmts ∷ 
 in_statement keywords.When = Some (Name ∷ Open ∷ Args ∷ Refs ∷ Semicolon ∷ Stmts ∷ [])
 in_statement k = None
 
--- what is wanted behind a keyword that begins a def or main
+-- what is wanted after a keyword that begins a def or main
 abbrev pub in_def : Keyword → Option (List Wanted)
 in_def keywords.Def = Some (Name ∷ Open ∷ Params ∷ Held ∷ OpenBlock ∷ Stmts ∷ Defs ∷ [])
 in_def keywords.Main = Some (OpenBlock ∷ Stmts ∷ [])
 in_def k = None
 
--- what is wanted behind a keyword that begins a declaration of cowns, a def or main
+-- what is wanted after a keyword that begins a declaration of cowns, a def or main
 abbrev pub in_declaration : Keyword → Option (List Wanted)
 in_declaration keywords.Cown = Some (CownName ∷ Assign ∷ Initial ∷ Semicolon ∷ Cowns ∷ [])
 in_declaration k = in_def k
@@ -67,7 +67,7 @@ abbrev pub in_else : Keyword → Option (List Wanted)
 in_else keywords.Else = Some (OpenBlock ∷ Stmts ∷ [])
 in_else k = None
 
--- what is wanted behind a keyword
+-- what is wanted after a keyword
 abbrev pub behind_keyword : Keyword → Wanted → Option (List Wanted)
 behind_keyword k Cowns = in_declaration k
 behind_keyword k Defs = in_def k
@@ -75,18 +75,18 @@ behind_keyword k Stmts = in_statement k
 behind_keyword k Else = in_else k
 behind_keyword k w = None
 
--- what is wanted behind an operator that binds more tightly than a comparison
+-- what is wanted after an operator that binds more tightly than a comparison
 abbrev pub behind_operator : Wanted → Option (List Wanted)
 behind_operator InExpr = Some (Expr ∷ [])
 behind_operator InSum = Some (Sum ∷ [])
 behind_operator w = None
 
--- what is wanted behind a comparison, of which an expression has one at most
+-- what is wanted after a comparison, of which an expression has one at most
 abbrev pub behind_comparison : Wanted → Option (List Wanted)
 behind_comparison InExpr = Some (Sum ∷ [])
 behind_comparison w = None
 
--- what is wanted behind a minus: it is an operator, or stands before a number or a factor
+-- what is wanted after a minus: it is an operator, or comes before a number or a factor
 abbrev pub behind_minus : Wanted → Option (List Wanted)
 behind_minus Initial = Some (Number ∷ [])
 behind_minus Args = Some (Expr ∷ MoreArgs ∷ [])
@@ -156,7 +156,7 @@ abbrev pub behind_assign : Wanted → Option (List Wanted)
 behind_assign Assign = Some []
 behind_assign w = None
 
--- what is wanted behind a sign
+-- what is wanted after a sign
 abbrev pub behind_sign : Sign → Wanted → Option (List Wanted)
 behind_sign signs.Plus w = behind_operator w
 behind_sign signs.Star w = behind_operator w
@@ -174,7 +174,7 @@ behind_sign signs.Comma w = behind_comma w
 behind_sign signs.Assign w = behind_assign w
 behind_sign comparison w = behind_comparison w
 
--- What is wanted behind a token, in place of what was wanted where it stands; nothing where it isn't what was wanted.
+-- What is wanted after a token, instead of what was wanted where it stands; nothing where it isn't what was wanted.
 abbrev pub behind : Token → Wanted → Option (List Wanted)
 behind (name x) w = behind_name w
 behind (number n) w = behind_number n w
@@ -190,13 +190,13 @@ may_be_left_out InExpr = true
 may_be_left_out InSum = true
 may_be_left_out w = false
 
--- What is wanted of the rest of a text behind a token, where all this was wanted in front of it, one behind the other. It is none where the token
--- can't stand there.
+-- What is wanted of the rest of a text after a token, where all this was wanted before it, one after the other. It is none where the token
+-- can't be there.
 abbrev pub wanted_behind : Token → List Wanted → Option (List Wanted)
 wanted_behind t [] = None
 wanted_behind t (w ∷ ws) = elim (behind t w) [ Some all ↦ Some (all ++ ws) | None ↦ if may_be_left_out w then wanted_behind t ws else None ]
 
--- what is wanted behind several tokens
+-- what is wanted after several tokens
 abbrev pub wanted_after : List Token → List Wanted → Option (List Wanted)
 wanted_after [] ws = Some ws
 wanted_after (t ∷ ts) ws = elim (wanted_behind t ws) [ Some vs ↦ wanted_after ts vs | None ↦ None ]

@@ -7,17 +7,17 @@ use Rattle.boc_reader.specs.NameUses.{Use, tree_uses}
 use Rattle.boc_reader.specs.WrongTokens.{bytes_of, pieces_of}
 use Rattle.boc_reader.specs.declared.fault.NameFault.{NameFault}
 
--- What is said of names in their order: there are so many, and all are right; or so many stand before the first wrong one, which is wrong in this way.
+-- What is said of names in their order: there are so many, and all are right; or so many come before the first wrong one, which is wrong in this way.
 pub data Verdict : Type 0 where
   right : ℕ → Verdict
   wrong : NameFault → ℕ → Verdict
 
--- the verdict on a name behind n others, and on those behind it
+-- the verdict on a name after n others, and on those after it
 abbrev pub one_verdict : Option NameFault → ℕ → Verdict → Verdict
 one_verdict None n behind = behind
 one_verdict (Some fault) n behind = wrong fault n
 
--- the verdict on names behind n others, all of which are right
+-- the verdict on names after n others, all of which are right
 abbrev pub verdict : ℕ → List Use → Verdict
 verdict n [] = right n
 verdict n (u ∷ us) = one_verdict u.fault n (verdict (n + 1) us)
@@ -30,7 +30,7 @@ names_of_tokens (number n ∷ ts) = names_of_tokens ts
 names_of_tokens (keyword k ∷ ts) = names_of_tokens ts
 names_of_tokens (sign s ∷ ts) = names_of_tokens ts
 
--- The name behind n others of a text begins at this byte: these pieces stand before it, and their tokens have so many names.
+-- The name after n others of a text begins at this byte: these pieces come before it, and their tokens have so many names.
 pub record IsPlaceOfName (text : List ℕ) (n at : ℕ) : Type 0 where
   pub before : List Piece
   pub tokens : List Token

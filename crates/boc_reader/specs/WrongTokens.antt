@@ -31,8 +31,8 @@ IsWrongPiece fault p = ⊥
 abbrev pub pieces_of : List ℕ → List Piece
 pieces_of text = cut (without_comments false text)
 
--- Pieces that are those of the rest of a text, as far as they go right: behind a comment that a byte from 128 on cuts short they may differ, but only
--- behind that byte.
+-- Pieces that are those of the rest of a text, as far as they go right: after a comment that a byte from 128 on cuts short they may differ, but only
+-- after that byte.
 abbrev pub LeadOn : List Piece → List ℕ → Type 0
 LeadOn left rest = (left ≡ pieces_of rest)
     ⊎ ((b : ℕ) × (bs : List ℕ) × (behind : List Piece) × (rest ≡ b ∷ bs) × (left ≡ single b ∷ behind) × (128 ≤ b))

@@ -23,7 +23,7 @@ use boc_program::limits::MOST_TEXT;
 use std::marker::Model;
 use std::mem;
 
-/// What is left of the tokens, and the room there: how many more nodes the body may have, or how
+/// What is left of the tokens, and of the limit: how many more nodes the body may have, or how
 /// many more cowns or defs the text.
 #[derive(Drop)]
 pub struct Cursor<'t, 'a> {
@@ -41,7 +41,7 @@ impl<'t, 'a> Model for Cursor<'t, 'a> {
 }
 
 impl<'t, 'a> Cursor<'t, 'a> {
-    /// In front of all tokens of a text.
+    /// Returns the cursor before all tokens of a text.
     pub fn new(tokens: &'t [Placed<'a>], room: u32) -> Cursor<'t, 'a>
         ensures tokens { result.tokens ≡ tokens_of tokens.now }
         ensures position { result.position ≡ position_of tokens.now }
@@ -50,7 +50,7 @@ impl<'t, 'a> Cursor<'t, 'a> {
         Cursor { rest: tokens, room }
     }
 
-    /// The byte at which the next token begins. Where none is left it is one that is behind every text.
+    /// Returns the byte at which the next token begins. Where none is left it is one that is after every text.
     pub fn position(&self) -> usize
         ensures { result ≡ self.now.position }
     {
@@ -60,21 +60,21 @@ impl<'t, 'a> Cursor<'t, 'a> {
         }
     }
 
-    /// How many tokens are left.
+    /// Returns how many tokens are left.
     pub fn left(&self) -> usize
         ensures { result ≡ length self.now.tokens }
     {
         self.rest.len()
     }
 
-    /// The next token is not what the grammar allows there.
+    /// Returns the fault that the next token is not what the grammar allows there.
     pub fn unexpected(&self) -> Fault<ShapeFault>
         ensures { result ≡ At ShapeFault.Unexpected self.now.position }
     {
         Fault::At(ShapeFault::Unexpected, self.position())
     }
 
-    /// The next token.
+    /// Returns the next token.
     pub fn peek(&self) -> Option<Token<'a>>
         ensures { MatchOption result (self.now.tokens ≡ [])
             (λ t. self.now.tokens ≡ token_of t ∷ drop 1 self.now.tokens) }
@@ -94,7 +94,7 @@ impl<'t, 'a> Cursor<'t, 'a> {
         self.rest = &self.rest[1..];
     }
 
-    /// Sets the room, and gives back what there was.
+    /// Sets what is left of the limit, and returns what was left before.
     pub fn refill(&mut self, room: u32) -> u32
         ensures tokens { self.new.tokens ≡ self.old.tokens }
         ensures room { self.new.room ≡ room }
@@ -103,7 +103,7 @@ impl<'t, 'a> Cursor<'t, 'a> {
         mem::replace(&mut self.room, room)
     }
 
-    /// Takes so much room for what stands at this byte.
+    /// Takes `count` from the limit for what is at this byte.
     pub fn take_room(&mut self, count: u64, at: usize) -> Result<(), Fault<ShapeFault>>
         ensures tokens { self.new.tokens ≡ self.old.tokens }
         ensures room { MatchResult result (λ _. count + self.new.room ≡ self.old.room)
@@ -117,7 +117,7 @@ impl<'t, 'a> Cursor<'t, 'a> {
         Ok(())
     }
 
-    /// Takes the room of one node, which the next token begins.
+    /// Takes one from the limit for the node that the next token begins.
     pub fn node(&mut self) -> Result<(), Fault<ShapeFault>>
         ensures tokens { self.new.tokens ≡ self.old.tokens }
         ensures room { MatchResult result (λ _. 1 + self.new.room ≡ self.old.room)
@@ -138,7 +138,7 @@ impl<'t, 'a> Cursor<'t, 'a> {
         Ok(())
     }
 
-    /// Whether the next token is this keyword.
+    /// Returns whether the next token is this keyword.
     pub fn is_next(&self, wanted: Keyword) -> bool
         ensures next { OnTrue result (self.now.tokens ≡ keyword wanted ∷ drop 1 self.now.tokens) }
         ensures other { OnFalse result (NoKeyword wanted self.now.tokens) }
@@ -288,7 +288,7 @@ impl<'t, 'a> Cursor<'t, 'a> {
         Ok(true)
     }
 
-    /// Tells that no token is left.
+    /// Checks that no token is left.
     pub fn end(&self) -> Result<(), Fault<ShapeFault>>
         ensures { MatchResult result (λ _. self.now.tokens ≡ []) (λ f. Refusal f (self.now.tokens ≢ [])) }
     {

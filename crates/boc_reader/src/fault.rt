@@ -4,7 +4,7 @@ use std::alloc::{AllocError, AllocFailed};
 use thiserror::Error;
 
 /// Why a pass over a text stopped: memory was refused, or there is a fault of this kind, whose first
-/// byte stands at this place. Where names are judged, the place is how many names stand before the wrong one.
+/// byte is at this place. Where names are judged, the place is how many names come before the wrong one.
 #[derive(Clone, Copy, PartialEq, Eq, Debug)]
 pub enum Fault<K> {
     Memory,
@@ -116,7 +116,7 @@ impl ReadFaultKind {
     ghost use Rattle.std.specs.Prelude.{◌≡◌};
     ghost use Rattle.boc_reader.specs.FaultTexts.{kind_text};
 
-    /// Its number and its name, as they are displayed.
+    /// Returns its number and its name, as they are displayed.
     pub fn text(&self) -> &'static str
         ensures { result.now ≡ kind_text self.now }
     {

@@ -6,7 +6,7 @@ ghost use Rattle.std.specs.Bool.{OnTrue};
 ghost use Rattle.std.specs.Char.{is_ascii_digit};
 ghost use Rattle.std.specs.List.{take_while, list_all};
 ghost use Rattle.std.specs.Str.{byte, IsAscii};
-ghost use Rattle.boc_reader.specs.Placed.{token_of, tokens_of, ArePlaced, AreReached, IsEndOf};
+ghost use Rattle.boc_reader.specs.Placed.{token_of, tokens_of, ArePlaced, AreReached, AreEnded, AreTokens, IsEndOf};
 ghost use Rattle.boc_reader.specs.Tokens as the;
 ghost use Rattle.boc_reader.specs.Tokens.{sign, is_name_byte, is_blank, is_numeral, value_of, begins_with_digit, token_of_run, keyword_of, single_sign};
 ghost use Rattle.boc_reader.specs.Tokens.{pair_sign, tokens_of_text, IsApart};
@@ -16,7 +16,7 @@ use crate::fault::{Fault, TokenFault};
 use crate::natural::Natural;
 use crate::terminal::{Keyword, Sign};
 use crate::token::{Placed, Token};
-use std::alloc::Global;
+use std::alloc::{AllocError, Global};
 
 fn is_name_byte(b: u8) -> bool
     ensures { result ≡ is_name_byte b }
@@ -30,7 +30,7 @@ fn is_blank(b: u8) -> bool
     b == b' ' || b == b'\t' || b == b'\r' || b == b'\n'
 }
 
-// How many name bytes stand at the front.
+// Returns how many name bytes are at the front.
 fn run_len(text: &[u8]) -> usize
     ensures { result ≡ length (take_while is_name_byte text.now) }
 {
@@ -137,7 +137,7 @@ fn number_of(run: &[u8]) -> Result<Natural, TokenFault>
     Ok(Natural { value })
 }
 
-// ASCII bytes, as the text that they are.
+// Returns ASCII bytes as the text that they are.
 fn ascii(bytes: &[u8]) -> &str
     requires { IsAscii bytes.now }
     ensures { result.now ≡ bytes.now }
@@ -159,7 +159,7 @@ fn begins_with_digit(run: &[u8]) -> bool
 
 const LONGEST_NAME: usize = 32;
 
-// What a run of name bytes is.
+// Returns what a run of name bytes is.
 #[tactic(auto, unfolding(crate::specs::Tokens::token_of_run))]
 fn token_of_run<'a>(run: &'a [u8]) -> Result<Token<'a>, TokenFault>
     requires { IsAscii run.now }
@@ -175,7 +175,7 @@ fn token_of_run<'a>(run: &'a [u8]) -> Result<Token<'a>, TokenFault>
     }
 }
 
-// What follows a comment: the line feed, the end, or a byte that no text may have.
+// Returns what follows a comment: the line feed, the end, or a byte that no text may have.
 fn after_comment(text: &[u8]) -> &[u8]
     ensures read { HasRead (byte "#" ∷ text.now) result.now [] }
     ensures shorter { length result.now ≤ length text.now }
@@ -191,7 +191,7 @@ fn after_comment(text: &[u8]) -> &[u8]
     rest
 }
 
-// The longest run of name bytes at the front, and what follows it.
+// Returns the longest run of name bytes at the front, and what follows it.
 fn split_run(text: &[u8]) -> Option<(&[u8], &[u8])>
     ensures piece { MatchOption result ((b : ℕ) (bs : List ℕ) → text.now ≡ b ∷ bs → is_name_byte b ≡ false)
         (λ x. pieces_of text.now ≡ the.run x.0.now ∷ pieces_of x.1.now) }
@@ -207,7 +207,7 @@ fn split_run(text: &[u8]) -> Option<(&[u8], &[u8])>
     Some(text.split_at(len))
 }
 
-// A sign of two bytes at the front, and what follows it.
+// Returns a sign of two bytes at the front, and what follows it.
 fn split_pair(first: u8, after: &[u8]) -> Option<(Sign, &[u8])>
     ensures read { MatchOption result (IsApart first after.now) (λ x. HasRead (first ∷ after.now) x.1.now (sign x.0 ∷ [])) }
     ensures shorter { IfSome result (λ x. length x.1.now < length after.now) }
@@ -222,7 +222,7 @@ fn split_pair(first: u8, after: &[u8]) -> Option<(Sign, &[u8])>
     }
 }
 
-// The sign at the front, and what follows it.
+// Returns the sign at the front, and what follows it.
 fn split_sign(first: u8, after: &[u8]) -> Result<(Sign, &[u8]), TokenFault>
     requires no_name_byte { is_name_byte first ≡ false }
     requires no_blank { is_blank first ≡ false }
@@ -241,7 +241,7 @@ fn split_sign(first: u8, after: &[u8]) -> Result<(Sign, &[u8]), TokenFault>
     }
 }
 
-// The token at the front, and what follows it.
+// Returns the token at the front, and what follows it.
 fn split_token(text: &[u8]) -> Result<(Token<'_>, &[u8]), TokenFault>
     requires some { text.now ≢ [] }
     requires no_blank { (b : ℕ) (bs : List ℕ) → text.now ≡ b ∷ bs → (is_blank b ≡ false) × (b ≢ byte "#") }
@@ -259,11 +259,13 @@ fn split_token(text: &[u8]) -> Result<(Token<'_>, &[u8]), TokenFault>
     Ok((Token::Sign(sign), after))
 }
 
-/// The tokens of a text, each with its place. A text that has none is refused for the first thing that is wrong with it, which begins at the byte that is told.
+/// Returns the tokens of a text, each with its place. A text that has none is refused for the first thing that is wrong with it, which begins at the reported
+/// byte.
 pub fn tokens(alloc: Global, text: &[u8]) -> Result<Vec<Placed<'_>>, Fault<TokenFault>>
     ensures tokens { MatchResult result (λ v. tokens_of_text text.now ≡ Some (tokens_of v.items)) (λ fault. IsFirstWrong fault text.now) }
     ensures places { IfOk result (λ v. ArePlaced text.now v.items) }
     ensures reached { IfOk result (λ v. AreReached text.now [] v.items) }
+    ensures ended { IfOk result (λ v. AreEnded text.now [] v.items) }
 {
     let mut all = Vec::new(alloc);
     let mut rest = text;
@@ -276,7 +278,8 @@ pub fn tokens(alloc: Global, text: &[u8]) -> Result<Vec<Placed<'_>>, Fault<Token
             let at = text.len() - rest.len();
             match split_token(rest) {
                 Ok((token, after)) => {
-                    all.push(Placed { token, at })?;
+                    let end = text.len() - after.len();
+                    all.push(Placed { token, at, end })?;
                     rest = after;
                 }
                 Err(kind) => return Err(Fault::At(kind, at)),
@@ -284,4 +287,15 @@ pub fn tokens(alloc: Global, text: &[u8]) -> Result<Vec<Placed<'_>>, Fault<Token
         }
     }
     Ok(all)
+}
+
+/// Reads the tokens of a text, each with its place; none where something in the text is no token.
+pub fn read_tokens(alloc: Global, text: &[u8]) -> Result<Option<Vec<Placed<'_>>>, AllocError>
+    ensures { IfOk result (λ found. MatchOption found (tokens_of_text text.now ≡ None) (λ v. AreTokens v.items text.now)) }
+{
+    match tokens(alloc, text) {
+        Ok(tokens) => Ok(Some(tokens)),
+        Err(Fault::At(_, _)) => Ok(None),
+        Err(Fault::Memory) => Err(AllocError),
+    }
 }

@@ -7,7 +7,7 @@ ghost use Rattle.boc_reader.specs.Lines.{line_after};
 
 use crate::fault::{ReadFault, ReadFaultKind};
 
-/// The fault of this kind at a byte of a text, or at its end where the byte is none of it.
+/// Returns the fault of this kind at a byte of a text, or at its end where the byte is none of it.
 pub(crate) fn fault_at(text: &[u8], kind: ReadFaultKind, at: usize) -> ReadFault
     requires { length text.now ≤ MOST_TEXT }
     ensures kind { result.kind ≡ kind }
@@ -22,7 +22,7 @@ pub(crate) fn fault_at(text: &[u8], kind: ReadFaultKind, at: usize) -> ReadFault
     }
 }
 
-/// The number of the line in which a byte stands, or the last one at the end of the text.
+/// Returns the number of the line in which a byte is, or the last one at the end of the text.
 pub(crate) fn line_at(text: &[u8], at: usize) -> u32
     requires { length text.now ≤ MOST_TEXT }
     ensures { result ≡ line_after (take at text.now) }
@@ -30,7 +30,7 @@ pub(crate) fn line_at(text: &[u8], at: usize) -> u32
     line_after(&text[..at.min(text.len())])
 }
 
-/// The number of the line that these bytes lead to.
+/// Returns the number of the line that these bytes lead to.
 pub(crate) fn line_after(front: &[u8]) -> u32
     requires { length front.now ≤ MOST_TEXT }
     ensures { result ≡ line_after front.now }

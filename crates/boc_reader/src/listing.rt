@@ -1,4 +1,4 @@
-// What the names of a text are, beside the program that it spells.
+// What the names of a text are, in addition to the program that it spells.
 
 ghost use Rattle.std.specs.Prelude.{◌≡◌, ◌-◌, ◌<◌, ◌≤◌, ℕ, List, IfOk, map, length, drop, take};
 ghost use Rattle.boc_program.specs.declared.limits.TheConstants.{MOST_TEXT};
@@ -24,7 +24,7 @@ pub struct DefListing {
     pub line: u32,
 }
 
-// A name of its own.
+// Returns an owned copy of a name.
 fn owned(alloc: Global, name: &str) -> Result<Name, AllocError>
     ensures { IfOk result (λ made. made ≡ name.now) }
 {
@@ -41,7 +41,7 @@ fn names(alloc: Global, spots: &[Spot<'_>]) -> Result<Vec<Name>, AllocError>
     Ok(all)
 }
 
-// The place of the token from which on so many are left.
+// Returns the place of the token from which on `left` are left.
 fn place_of(tokens: &[Placed<'_>], left: usize) -> usize
     requires some { 0 < left }
     requires within { left ≤ length tokens.now }
@@ -70,7 +70,7 @@ fn list_def(
     })
 }
 
-/// The listing of a tree's defs, in their order, where the tree has these tokens, and they stand in this text.
+/// Returns the listing of a tree's defs, in their order, where the tree has these tokens, and they are in this text.
 pub(crate) fn list_defs(
     alloc: Global,
     text: &[u8],
@@ -90,7 +90,7 @@ pub(crate) fn list_defs(
     Ok(all)
 }
 
-/// A text has one listing at most, but for the lines.
+/// A text has one listing at most, up to the lines.
 pub fn one_listing()
     ensures { (text : List ℕ) (defs others : List DefListing) → ListsDefs text defs → ListsDefs text others → map listed defs ≡ map listed others }
 {}

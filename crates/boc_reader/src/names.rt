@@ -28,7 +28,7 @@ use boc_program::lists::{BodyList, CownList};
 use boc_program::program::Program;
 use std::alloc::Global;
 
-// The bodies of the defs, whose names may not be among those that stand before them.
+// Returns the bodies of the defs, whose names may not be among those before them.
 fn resolve_defs<'a>(
     alloc: Global,
     top: &Top<'a>,
@@ -51,7 +51,7 @@ fn resolve_defs<'a>(
     Ok(bodies)
 }
 
-// A program of parts that fit.
+// Returns a program of parts that fit.
 fn fitting(cowns: Vec<Cown>, bodies: Vec<Body>) -> Program
     requires { MakesProgram cowns.items bodies.items }
     ensures { let p : PlainProgram = record { cowns = map plain_declared cowns.items; bodies = map plain_body bodies.items } in plain_program result ≡ p }
@@ -59,7 +59,7 @@ fn fitting(cowns: Vec<Cown>, bodies: Vec<Body>) -> Program
     Program::new(CownList::new(cowns), BodyList::new(bodies))
 }
 
-// The bodies of a tree, main's first.
+// Returns the bodies of a tree, main's first.
 fn resolve_bodies<'a>(
     alloc: Global,
     top: &Top<'a>,
@@ -77,7 +77,7 @@ fn resolve_bodies<'a>(
     Ok(bodies)
 }
 
-// The cowns and the bodies of a tree, main's body first.
+// Returns the cowns and the bodies of a tree, main's body first.
 fn resolve_parts(alloc: Global, tree: &Tree<'_>) -> Result<(Vec<Cown>, Vec<Body>), Unresolved>
     requires { IsWithinLimits (tree_of tree.now) }
     ensures { Yields (λ parts. let p : PlainProgram = record { cowns = map plain_declared parts.0.items; bodies = map plain_body parts.1.items } in p) result
@@ -89,7 +89,7 @@ fn resolve_parts(alloc: Global, tree: &Tree<'_>) -> Result<(Vec<Cown>, Vec<Body>
     Ok((cowns, bodies))
 }
 
-/// The program of a tree within the limits, where every name is declared once and used as what it is.
+/// Returns the program of a tree within the limits, where every name is declared once and used as what it is.
 /// The names at the top are those of the whole text.
 pub fn resolve_program(alloc: Global, tree: &Tree<'_>) -> Result<Program, Unresolved>
     requires { IsWithinLimits (tree_of tree.now) }

@@ -10,7 +10,7 @@ pub struct Natural {
 }
 
 impl Natural {
-    /// The number, behind a minus or not.
+    /// Returns the number, after a minus or not.
     pub fn signed(self, negative: bool) -> i64
         ensures { result ≡ (if negative then neg_ℤ (pos self.value) else pos self.value) }
     {

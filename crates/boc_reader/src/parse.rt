@@ -35,7 +35,7 @@ const _: () = prove!(MOST_LISTED == MOST_HELD);
 
 type Read<T> = Result<T, Fault<ShapeFault>>;
 
-/// The tree of a text that has these tokens and ends at this byte.
+/// Returns the tree of a text that has these tokens and ends at this byte.
 pub fn parse_tree<'a>(alloc: Global, tokens: &[Placed<'a>]) -> Read<Tree<'a>>
     ensures left { IfOk result (λ t. AreLeft t.defs.items (main_tokens (block_of t.main.items))) }
     ensures shape { MatchResult result (λ t. HasShape (tokens_of tokens.now) (tree_of t))
@@ -49,7 +49,7 @@ pub fn parse_tree<'a>(alloc: Global, tokens: &[Placed<'a>]) -> Read<Tree<'a>>
     Ok(Tree { cowns, defs, main })
 }
 
-// Main's body, and the end of the text.
+// Reads main's body, and the end of the text.
 fn main_block<'a>(alloc: Global, cursor: &mut Cursor<'_, 'a>) -> Read<Vec<Stmt<'a>>>
     ensures { Parses main_phrase (λ v. block_of v.items) cursor.old result cursor.new }
 {
@@ -85,7 +85,7 @@ fn cown<'a>(cursor: &mut Cursor<'_, 'a>) -> Read<CownShape<'a>>
     })
 }
 
-// The size of an array, or none for a single cown, whose name stands at this byte.
+// Reads the size of an array, or none for a single cown, whose name is at this byte.
 fn size(cursor: &mut Cursor<'_, '_>, name_at: usize) -> Read<Option<u64>>
     ensures answers { Parses size_phrase (λ n. n) cursor.old result cursor.new }
     ensures shorter { OnOk result (length cursor.new.tokens ≤ length cursor.old.tokens) }
@@ -104,7 +104,7 @@ fn size(cursor: &mut Cursor<'_, '_>, name_at: usize) -> Read<Option<u64>>
     Ok(Some(size))
 }
 
-// The value that a cown begins with, and whether there is a minus before it.
+// Reads the value that a cown begins with, and whether there is a minus before it.
 fn initial(cursor: &mut Cursor<'_, '_>) -> Read<(bool, Natural)>
     ensures answers { Parses initial_phrase (λ v. (v.0, v.1.value)) cursor.old result cursor.new }
     ensures shorter { OnOk result (length cursor.new.tokens < length cursor.old.tokens) }
@@ -148,7 +148,7 @@ fn def<'a>(alloc: Global, cursor: &mut Cursor<'_, 'a>) -> Read<DefShape<'a>>
 
 type Signature<'a> = (Spot<'a>, (Vec<Spot<'a>>, Vec<Spot<'a>>));
 
-// The name of a def, and its parameters.
+// Reads the name of a def, and its parameters.
 fn signature<'a>(alloc: Global, cursor: &mut Cursor<'_, 'a>) -> Read<Signature<'a>>
     ensures answers { Parses signature_phrase (λ s. (name_of s.0, (map name_of s.1.0.items, map name_of s.1.1.items))) cursor.old result cursor.new }
     ensures shorter { OnOk result (length cursor.new.tokens < length cursor.old.tokens) }
@@ -160,7 +160,7 @@ fn signature<'a>(alloc: Global, cursor: &mut Cursor<'_, 'a>) -> Read<Signature<'
     Ok((name, (params, cowns)))
 }
 
-// Names, and the sign behind them.
+// Reads names, and the sign after them.
 fn names<'a>(alloc: Global, cursor: &mut Cursor<'_, 'a>, close: Sign) -> Read<Vec<Spot<'a>>>
     requires { close ≢ Comma }
     ensures answers { Parses (list_phrase name_phrase close) (λ v. map name_of v.items) cursor.old result cursor.new }
@@ -182,7 +182,7 @@ fn names<'a>(alloc: Global, cursor: &mut Cursor<'_, 'a>, close: Sign) -> Read<Ve
     }
 }
 
-// The fault where eight parameters or references have been read, and a comma.
+// Returns the fault where eight parameters or references have been read, and a comma.
 fn ninth(cursor: &Cursor<'_, '_>) -> Fault<ShapeFault> {
     match cursor.peek() {
         Some(Token::Name(_)) => Fault::At(ShapeFault::TooMany, cursor.position()),
@@ -190,7 +190,7 @@ fn ninth(cursor: &Cursor<'_, '_>) -> Fault<ShapeFault> {
     }
 }
 
-// A block in its braces, with the room of a whole body.
+// Reads a block in its braces, with the limit of a whole body.
 fn body<'a>(alloc: Global, cursor: &mut Cursor<'_, 'a>) -> Read<Vec<Stmt<'a>>>
     ensures answers { Parses body_phrase (λ v. block_of v.items) cursor.old result cursor.new }
     ensures shorter { OnOk result (length cursor.new.tokens < length cursor.old.tokens) }
@@ -201,7 +201,7 @@ fn body<'a>(alloc: Global, cursor: &mut Cursor<'_, 'a>) -> Read<Vec<Stmt<'a>>>
     Ok(body)
 }
 
-// A block in its braces.
+// Reads a block in its braces.
 #[cycle(body)]
 fn braced<'a>(alloc: Global, cursor: &mut Cursor<'_, 'a>) -> Read<Vec<Stmt<'a>>>
     ensures answers { Parses braced_phrase (λ v. block_of v.items) cursor.old result cursor.new }
@@ -212,7 +212,7 @@ fn braced<'a>(alloc: Global, cursor: &mut Cursor<'_, 'a>) -> Read<Vec<Stmt<'a>>>
     Ok(body)
 }
 
-// Statements, and the brace behind them.
+// Reads statements, and the brace after them.
 #[cycle(body)]
 fn block<'a>(alloc: Global, cursor: &mut Cursor<'_, 'a>) -> Read<Vec<Stmt<'a>>>
     ensures answers { Parses block_phrase (λ v. block_of v.items) cursor.old result cursor.new }
@@ -239,7 +239,7 @@ fn stmt<'a>(alloc: Global, cursor: &mut Cursor<'_, 'a>) -> Read<Stmt<'a>>
     simple(alloc, cursor)
 }
 
-// A statement with no block.
+// Reads a statement with no block.
 fn simple<'a>(alloc: Global, cursor: &mut Cursor<'_, 'a>) -> Read<Stmt<'a>>
     requires no_if { NoKeyword If cursor.old.tokens }
     requires no_repeat { NoKeyword Repeat cursor.old.tokens }
@@ -271,7 +271,7 @@ fn simple<'a>(alloc: Global, cursor: &mut Cursor<'_, 'a>) -> Read<Stmt<'a>>
     }
 }
 
-// An `if`, which is next.
+// Reads an `if`, which is next.
 #[cycle(body)]
 fn choice<'a>(alloc: Global, cursor: &mut Cursor<'_, 'a>) -> Read<Stmt<'a>>
     requires { cursor.old.tokens ≡ keyword If ∷ drop 1 cursor.old.tokens }
@@ -287,7 +287,7 @@ fn choice<'a>(alloc: Global, cursor: &mut Cursor<'_, 'a>) -> Read<Stmt<'a>>
     }
 }
 
-// A block, and that of an `else`, if one is there.
+// Reads a block, and that of an `else`, if one is there.
 #[cycle(body)]
 fn blocks<'a>(
     alloc: Global,
@@ -306,7 +306,7 @@ fn blocks<'a>(
     Ok((body, Some(other)))
 }
 
-// A `repeat`, which is next.
+// Reads a `repeat`, which is next.
 #[cycle(body)]
 fn repeated<'a>(alloc: Global, cursor: &mut Cursor<'_, 'a>) -> Read<Stmt<'a>>
     requires { cursor.old.tokens ≡ keyword Repeat ∷ drop 1 cursor.old.tokens }
@@ -319,7 +319,7 @@ fn repeated<'a>(alloc: Global, cursor: &mut Cursor<'_, 'a>) -> Read<Stmt<'a>>
     Ok(Stmt::Repeat(turns, body))
 }
 
-// A name, and what is written to it.
+// Reads a name, and what is written to it.
 fn assigned<'a>(alloc: Global, cursor: &mut Cursor<'_, 'a>) -> Read<(Spot<'a>, Expr<'a>)>
     ensures answers { Parses let_phrase (λ w. (name_of w.0, expr_of w.1)) cursor.old result cursor.new }
     ensures shorter { OnOk result (length cursor.new.tokens < length cursor.old.tokens) }
@@ -340,7 +340,7 @@ fn written<'a>(alloc: Global, cursor: &mut Cursor<'_, 'a>) -> Read<Expr<'a>>
 
 type Arguments<'a> = (Vec<Expr<'a>>, Vec<NamedCown<'a>>);
 
-// What stands behind `when`.
+// Reads what comes after `when`.
 fn call<'a>(alloc: Global, cursor: &mut Cursor<'_, 'a>) -> Read<(Spot<'a>, Arguments<'a>)>
     ensures answers { Parses call_phrase (λ w. (name_of w.0, (map expr_of w.1.0.items, map named_cown_of w.1.1.items))) cursor.old result cursor.new }
     ensures shorter { OnOk result (length cursor.new.tokens < length cursor.old.tokens) }
@@ -361,7 +361,7 @@ fn arguments<'a>(alloc: Global, cursor: &mut Cursor<'_, 'a>) -> Read<Arguments<'
     Ok((args, refs))
 }
 
-// Arguments, and the semicolon behind them.
+// Reads arguments, and the semicolon after them.
 fn exprs<'a>(alloc: Global, cursor: &mut Cursor<'_, 'a>) -> Read<Vec<Expr<'a>>>
     ensures answers { Parses (list_phrase expr_phrase Semicolon) (λ v. map expr_of v.items) cursor.old result cursor.new }
     ensures shorter { OnOk result (length cursor.new.tokens < length cursor.old.tokens) }
@@ -382,7 +382,7 @@ fn exprs<'a>(alloc: Global, cursor: &mut Cursor<'_, 'a>) -> Read<Vec<Expr<'a>>>
     }
 }
 
-// The fault where eight arguments have been read, and a comma.
+// Returns the fault where eight arguments have been read, and a comma.
 fn ninth_argument(cursor: &Cursor<'_, '_>) -> Fault<ShapeFault> {
     match cursor.peek() {
         Some(Token::Number(_) | Token::Name(_) | Token::Sign(Sign::Open | Sign::Minus)) => {
@@ -392,7 +392,7 @@ fn ninth_argument(cursor: &Cursor<'_, '_>) -> Fault<ShapeFault> {
     }
 }
 
-// References, and the parenthesis behind them.
+// Reads references, and the parenthesis after them.
 fn refs<'a>(alloc: Global, cursor: &mut Cursor<'_, 'a>) -> Read<Vec<NamedCown<'a>>>
     ensures answers { Parses (list_phrase ref_phrase Close) (λ v. map named_cown_of v.items) cursor.old result cursor.new }
     ensures shorter { OnOk result (length cursor.new.tokens < length cursor.old.tokens) }
@@ -426,7 +426,7 @@ fn reference<'a>(alloc: Global, cursor: &mut Cursor<'_, 'a>) -> Read<NamedCown<'
     Ok(NamedCown::Member(name, index))
 }
 
-// An expression, and the sign behind it.
+// Reads an expression, and the sign after it.
 #[cycle(expr)]
 fn closed<'a>(alloc: Global, cursor: &mut Cursor<'_, 'a>, close: Sign) -> Read<Expr<'a>>
     requires { tightness close ≡ 0 }
@@ -450,7 +450,7 @@ fn expr<'a>(alloc: Global, cursor: &mut Cursor<'_, 'a>) -> Read<Expr<'a>>
     }
 }
 
-// A comparison and what stands behind it, or nothing.
+// Reads a comparison and what comes after it, or nothing.
 #[cycle(expr)]
 fn compared<'a>(
     alloc: Global,
@@ -481,7 +481,7 @@ fn sum<'a>(alloc: Global, cursor: &mut Cursor<'_, 'a>) -> Read<Box<Sum<'a>>>
     Ok(Box::new(alloc, sum)?)
 }
 
-// An operator and the terms behind it, or nothing.
+// Reads an operator and the terms after it, or nothing.
 #[cycle(expr)]
 fn more_terms<'a>(
     alloc: Global,
@@ -512,7 +512,7 @@ fn term<'a>(alloc: Global, cursor: &mut Cursor<'_, 'a>) -> Read<Box<Term<'a>>>
     Ok(Box::new(alloc, term)?)
 }
 
-// An operator and the factors behind it, or nothing.
+// Reads an operator and the factors after it, or nothing.
 #[cycle(expr)]
 fn more_factors<'a>(
     alloc: Global,

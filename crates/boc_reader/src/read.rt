@@ -45,11 +45,11 @@ const NO_MEMORY: ReadFault = ReadFault {
     kind: ReadFaultKind::Memory,
 };
 
-/// The program that a text spells. A text that is too long is refused for that. Any other goes
+/// Returns the program that a text spells. A text that is too long is refused for that. Any other goes
 /// through three passes, for its tokens, its shape and its names: the first pass that finds a fault
-/// tells the first one in the text. The place and its line are those of the fault, of the first byte too many, or 0 for want of memory.
-/// It is proved to be the first one of its pass: among the tokens, of the shape, where it is the first token or the end that the grammar doesn't allow, or the
-/// first token with which a limit is passed, or among the names.
+/// reports the first one in the text. The place and its line are those of the fault, of the first byte too many, or 0 if memory was refused.
+/// It is proved to be the first one of its pass: among the tokens, of the shape, or among the names. A fault of the shape is at the first token or the end
+/// that the grammar doesn't allow, or at the first token with which a limit is passed.
 pub fn read_program(alloc: Global, text: &[u8]) -> Result<Program, ReadFault>
     ensures { MatchResult result (Spells text.now) (λ f. IsRefusalOf f text.now) }
 {
@@ -59,7 +59,7 @@ pub fn read_program(alloc: Global, text: &[u8]) -> Result<Program, ReadFault>
     }
 }
 
-/// The program that a text spells, and beside it the defs of the text in their order. A text is refused as by `read_program`.
+/// Returns the program that a text spells, and the defs of the text in their order. A text is refused as by `read_program`.
 pub fn read_listed(alloc: Global, text: &[u8]) -> Result<(Program, Vec<DefListing>), ReadFault>
     ensures { MatchResult result (λ read. Spells text.now read.0 × ListsDefs text.now read.1.items) (λ f. IsRefusalOf f text.now) }
 {
@@ -112,7 +112,7 @@ fn read_whole(alloc: Global, text: &[u8]) -> Result<Whole<'_>, ReadFault>
     }
 }
 
-// A fault of the first pass.
+// Returns a fault of the first pass.
 fn no_tokens(text: &[u8], fault: Fault<TokenFault>) -> ReadFault
     requires short { length text.now ≤ MOST_TEXT }
     requires first { IsFirstWrong fault text.now }
@@ -124,7 +124,7 @@ fn no_tokens(text: &[u8], fault: Fault<TokenFault>) -> ReadFault
     }
 }
 
-// The first fault among the tokens, which begins at this byte.
+// Returns the first fault among the tokens, which begins at this byte.
 fn wrong_at(text: &[u8], wrong: TokenFault, at: usize) -> ReadFault
     requires short { length text.now ≤ MOST_TEXT }
     requires within { at < length text.now }
@@ -138,7 +138,7 @@ fn wrong_at(text: &[u8], wrong: TokenFault, at: usize) -> ReadFault
     }
 }
 
-// A fault of the second pass, in a text that has these tokens.
+// Returns a fault of the second pass, in a text that has these tokens.
 fn no_shape(
     alloc: Global,
     text: &[u8],
@@ -161,7 +161,7 @@ fn no_shape(
     }
 }
 
-// A fault of the shape, which stands there.
+// Returns a fault of the shape, at this byte.
 fn shape_at(text: &[u8], wrong: ShapeFault, at: usize) -> ReadFault
     requires none { HasNoShape text.now }
     requires stands { ShapeFaultStandsAt wrong text.now at }
@@ -173,7 +173,7 @@ fn shape_at(text: &[u8], wrong: ShapeFault, at: usize) -> ReadFault
     }
 }
 
-// A fault of the third pass: the first wrong name of the tree, which has these tokens.
+// Returns a fault of the third pass: the first wrong name of the tree, which has these tokens.
 fn no_names(alloc: Global, text: &[u8], tokens: &[Placed<'_>], tree: &Tree<'_>) -> ReadFault
     requires short { length text.now ≤ MOST_TEXT }
     requires tokens { tokens_of_text text.now ≡ Some (tokens_of tokens.now) }
@@ -190,7 +190,7 @@ fn no_names(alloc: Global, text: &[u8], tokens: &[Placed<'_>], tree: &Tree<'_>) 
     }
 }
 
-// The first wrong name, which begins at this byte.
+// Returns the first wrong name, which begins at this byte.
 fn wrong_name(text: &[u8], wrong: NameFault, at: usize) -> ReadFault
     requires short { length text.now ≤ MOST_TEXT }
     requires within { at ≤ length text.now }
@@ -205,7 +205,7 @@ fn wrong_name(text: &[u8], wrong: NameFault, at: usize) -> ReadFault
     }
 }
 
-// The byte at which the name behind so many others begins.
+// Returns the byte at which the name after `before` others begins.
 fn place_of_name(tokens: &[Placed<'_>], before: usize) -> usize
     requires { before < length (names_of_tokens (tokens_of tokens.now)) }
     ensures { IsNameAt tokens.now before result }
@@ -222,7 +222,7 @@ fn place_of_name(tokens: &[Placed<'_>], before: usize) -> usize
     unreachable!()
 }
 
-/// A text of which a fault is told, but for want of memory, spells no program, a text spells one program at most, and a text without tokens goes wrong
+/// A text for which a fault is reported, except if memory was refused, spells no program. A text spells one program at most. A text without tokens goes wrong
 /// first in one way and at one place, as does one whose tokens have no shape, and one whose names can't be resolved. The shape of tokens goes wrong at one
 /// place at most, and nowhere where they are those of a tree.
 pub fn refused_is_none()

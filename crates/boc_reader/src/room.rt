@@ -1,4 +1,4 @@
-// How much more may stand in a text, until a limit is passed.
+// How much more a text may have, until a limit is passed.
 
 ghost use Rattle.std.specs.Prelude.{◌≡◌};
 ghost use Rattle.boc_reader.specs.Placed.{token_of, tokens_of};
@@ -22,7 +22,7 @@ pub(crate) struct Room {
 }
 
 impl Room {
-    /// That of a whole text.
+    /// Returns the limits of a whole text.
     pub(crate) fn of_text() -> Room
         ensures { result ≡ room_of_text }
     {
@@ -34,7 +34,7 @@ impl Room {
         }
     }
 
-    /// What is left behind a token which is what was wanted, in front of these tokens, or nothing where it passes a limit.
+    /// Returns what is left after a token which is what was wanted, before these tokens, or nothing where it passes a limit.
     pub(crate) fn left_behind(
         self,
         token: Token<'_>,
@@ -80,7 +80,7 @@ impl Room {
         }
     }
 
-    // Behind the name of a cown, in front of these tokens: it is a cown more, but that of an array, whose size tells how many there are.
+    // Returns what is left after the name of a cown, before these tokens: it is one more cown, except that of an array, whose size says how many there are.
     fn left_in_cown(self, after: &[Placed<'_>]) -> Option<Room>
         ensures { result ≡ left_in_cown (tokens_of after.now) self }
     {
@@ -90,7 +90,7 @@ impl Room {
         }
     }
 
-    // Behind the size of an array.
+    // Returns what is left after the size of an array.
     fn left_in_size(self, token: Token<'_>) -> Option<Room>
         ensures { result ≡ left_in_size (token_of token.entry) self }
     {

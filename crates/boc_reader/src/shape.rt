@@ -34,7 +34,7 @@ pub enum Term<'a> {
     More(Unary<'a>, TermOperator, Box<Term<'a>>),
 }
 
-/// A factor, behind any number of minuses.
+/// A factor, after any number of minuses.
 #[cycle(shape)]
 #[derive(Drop)]
 pub enum Unary<'a> {

@@ -1,11 +1,11 @@
-// Where a fault of the shape of a text stands.
+// Where a fault of the shape of a text is.
 
-ghost use Rattle.std.specs.Prelude.{◌≡◌, ◌++◌, [], ◌∷◌, drop, take, reverse, IfOk, OnOk, MatchResult, Some};
+ghost use Rattle.std.specs.Prelude.{◌≡◌, ◌++◌, [], ◌∷◌, drop, take, reverse, is_some, IfOk, OnOk, MatchResult, MatchOption, Some};
 ghost use Rattle.boc_reader.specs.Placed.{ArePlaced, AreReached, token_of, tokens_of};
 ghost use Rattle.boc_reader.specs.Wanted.{wanted_behind};
-ghost use Rattle.boc_reader.specs.Room.{within_behind};
+ghost use Rattle.boc_reader.specs.Room.{goes_on, within_behind};
 ghost use Rattle.boc_reader.specs.Grammar.{NoShape};
-ghost use Rattle.boc_reader.specs.WrongShape.{IsWrongThere, ShapeFaultSays, ShapeFaultStandsAt, StandAt};
+ghost use Rattle.boc_reader.specs.WrongShape.{IsReading, IsStray, IsWrongThere, ShapeFaultStandsAt, StandAt};
 ghost use Rattle.boc_reader.specs.Tokens.{tokens_of_text};
 
 use crate::fault::ShapeFault;
@@ -14,8 +14,8 @@ use crate::token::{Placed, Token};
 use crate::wanted::{Wanted, behind};
 use std::alloc::{AllocError, Global};
 
-/// The first fault of the shape of a text that has these tokens, and its place: the first token that the grammar doesn't allow there, or with which a limit
-/// is passed; or the end of the text, where more is wanted behind all of them.
+/// Returns the first fault of the shape of a text that has these tokens, and its place. That is the first token that the grammar doesn't allow there, or with
+/// which a limit is passed; or the end of the text, where more is wanted after all of them.
 pub(crate) fn first_fault(
     alloc: Global,
     text: &[u8],
@@ -27,11 +27,13 @@ pub(crate) fn first_fault(
     requires none { NoShape (tokens_of tokens.now) }
     ensures { IfOk result (λ found. ShapeFaultStandsAt found.0 text.now found.1) }
 {
-    let (fault, before) = first_wrong(alloc, tokens)?;
-    Ok((fault, place_of(text, tokens, before)))
+    match first_wrong(alloc, tokens)? {
+        Some(stray) => Ok((stray.fault, place_of(text, tokens, stray.before))),
+        None => unreachable!(),
+    }
 }
 
-// The byte at which the token begins that stands behind so many, or the end of the text behind all of them.
+// Returns the byte at which the token after `before` others begins, or the end of the text after all of them.
 fn place_of(text: &[u8], tokens: &[Placed<'_>], before: usize) -> usize
     requires placed { ArePlaced text.now tokens.now }
     requires reached { AreReached text.now [] tokens.now }
@@ -43,10 +45,19 @@ fn place_of(text: &[u8], tokens: &[Placed<'_>], before: usize) -> usize
     }
 }
 
-// What is wrong with the shape of these tokens first, and how many of them stand before it.
-fn first_wrong(alloc: Global, tokens: &[Placed<'_>]) -> Result<(ShapeFault, usize), AllocError>
-    requires { NoShape (tokens_of tokens.now) }
-    ensures { IfOk result (λ found. ShapeFaultSays found.0 (tokens_of tokens.now) found.1) }
+/// Where the tokens of a text go wrong first: what is wrong there, how many of them come before that, what is wanted after those, the last first, and what
+/// the limits leave.
+#[derive(Drop, Debug)]
+pub(crate) struct Stray {
+    pub(crate) fault: ShapeFault,
+    pub(crate) before: usize,
+    pub(crate) wanted: Vec<Wanted>,
+    pub(crate) room: Room,
+}
+
+/// Finds what is wrong with the shape of these tokens first; nothing where they are those of a program.
+pub(crate) fn first_wrong(alloc: Global, tokens: &[Placed<'_>]) -> Result<Option<Stray>, AllocError>
+    ensures { IfOk result (λ found. MatchOption found (NoShape (tokens_of tokens.now) → ⊥) (λ stray. IsStray stray (tokens_of tokens.now))) }
 {
     let mut wanted = Vec::new(alloc);
     wanted.push(Wanted::Cowns)?;
@@ -54,18 +65,65 @@ fn first_wrong(alloc: Global, tokens: &[Placed<'_>]) -> Result<(ShapeFault, usiz
     for (before, placed) in tokens.iter().enumerate() {
         match read(&mut wanted, placed.token, &tokens[before + 1..], room)? {
             Ok(left) => room = left,
-            Err(fault) => return Ok((fault, before)),
+            Err(fault) => {
+                return Ok(Some(Stray {
+                    fault,
+                    before,
+                    wanted,
+                    room,
+                }));
+            }
         }
     }
     if wanted.is_empty() {
-        unreachable!()
+        return Ok(None);
     }
-    Ok((ShapeFault::Unexpected, tokens.len()))
+    Ok(Some(Stray {
+        fault: ShapeFault::Unexpected,
+        before: tokens.len(),
+        wanted,
+        room,
+    }))
 }
 
-// Reads a token in front of others, where all this is wanted, the last first, and there is this room. It leaves what is wanted behind the token, and tells
-// the room there, or what is wrong with the token.
-fn read(
+/// How a token is read: what is wanted after it, before this much of what was wanted, and what the limits leave.
+#[derive(Clone, Copy, Debug)]
+pub(crate) struct Reading {
+    then: &'static [Wanted],
+    kept: usize,
+    room: Room,
+}
+
+/// Finds how a token is read before others, where all this is wanted, the last first, and the limits leave this; or what is wrong with the token.
+pub(crate) fn step(
+    wanted: &[Wanted],
+    token: Token<'_>,
+    after: &[Placed<'_>],
+    room: Room,
+) -> Result<Reading, ShapeFault>
+    ensures { MatchResult result (λ reading. IsReading reading (token_of token.entry) (tokens_of after.now) wanted.now room)
+        (λ fault. IsWrongThere fault (token_of token.entry) (tokens_of after.now) (reverse wanted.now) room) }
+{
+    let Some((next, others)) = wanted.split_last() else {
+        return Err(ShapeFault::Unexpected);
+    };
+    match behind(token, *next) {
+        Some(then) => match room.left_behind(token, after, *next) {
+            Some(room) => Ok(Reading {
+                then,
+                kept: others.len(),
+                room,
+            }),
+            None => Err(ShapeFault::TooMany),
+        },
+        None if next.may_be_left_out() => step(others, token, after, room),
+        None => Err(ShapeFault::Unexpected),
+    }
+}
+
+/// Reads a token before others, where all this is wanted, the last first, and the limits leave this. It leaves what is wanted after the token, and returns
+/// what the limits leave there; or what is wrong with the token, and then all stays wanted that was.
+pub(crate) fn read(
     wanted: &mut Vec<Wanted>,
     token: Token<'_>,
     after: &[Placed<'_>],
@@ -75,24 +133,43 @@ fn read(
         (λ left. (wanted_behind (token_of token.entry) (reverse wanted.old.items) ≡ Some (reverse wanted.new.items))
         × (within_behind (token_of token.entry) (tokens_of after.now) (reverse wanted.old.items) room
         ≡ Some (record { wanted = reverse wanted.new.items; room = left })))
-        (λ fault. IsWrongThere fault (token_of token.entry) (tokens_of after.now) (reverse wanted.old.items) room)) }
+        (λ fault. IsWrongThere fault (token_of token.entry) (tokens_of after.now) (reverse wanted.old.items) room
+        × (wanted.new.items ≡ wanted.old.items))) }
 {
-    while let Some(next) = wanted.pop() {
-        if let Some(then) = behind(token, next) {
-            let Some(left) = room.left_behind(token, after, next) else {
-                return Ok(Err(ShapeFault::TooMany));
-            };
-            want(wanted, then)?;
-            return Ok(Ok(left));
+    match step(wanted, token, after, room) {
+        Ok(reading) => {
+            wanted.truncate(reading.kept);
+            want(wanted, reading.then)?;
+            Ok(Ok(reading.room))
         }
-        if !next.may_be_left_out() {
-            return Ok(Err(ShapeFault::Unexpected));
-        }
+        Err(fault) => Ok(Err(fault)),
     }
-    Ok(Err(ShapeFault::Unexpected))
 }
 
-// Wants all of these first, one behind the other.
+/// Says whether a token is allowed before these, where all this is wanted, the last first, and the limits leave this.
+pub(crate) fn may_stand(
+    wanted: &[Wanted],
+    token: Token<'_>,
+    after: &[Placed<'_>],
+    room: Room,
+) -> bool
+    ensures { result ≡ is_some (within_behind (token_of token.entry) (tokens_of after.now) (reverse wanted.now) room) }
+{
+    step(wanted, token, after, room).is_ok()
+}
+
+/// Says whether the first of these tokens is allowed where all this is wanted, the last first, and the limits leave this; or, without a token, whether the
+/// text may end there.
+pub(crate) fn goes_on(wanted: &[Wanted], found: &[Placed<'_>], room: Room) -> bool
+    ensures { result ≡ goes_on (tokens_of found.now) (record { wanted = reverse wanted.now; room = room }) }
+{
+    match found.first() {
+        Some(found) => may_stand(wanted, found.token, &[], room),
+        None => wanted.is_empty(),
+    }
+}
+
+// Wants all of these first, one after the other.
 fn want(wanted: &mut Vec<Wanted>, then: &[Wanted]) -> Result<(), AllocError>
     ensures { OnOk result (reverse wanted.new.items ≡ then.now ++ reverse wanted.old.items) }
 {

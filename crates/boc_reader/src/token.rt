@@ -1,4 +1,4 @@
-// The tokens of a text, with where they stand.
+// The tokens of a text, with their places.
 
 use crate::natural::Natural;
 use crate::terminal::{Keyword, Sign};
@@ -12,9 +12,10 @@ pub enum Token<'a> {
     Sign(Sign),
 }
 
-/// A token, and the place of its first byte.
+/// A token, the place of its first byte, and the first place after it.
 #[derive(Clone, Copy, Debug)]
 pub struct Placed<'a> {
     pub token: Token<'a>,
     pub at: usize,
+    pub end: usize,
 }

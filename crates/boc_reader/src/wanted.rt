@@ -1,4 +1,4 @@
-// What is wanted next of a text, and what is wanted in its place behind a token.
+// What is wanted next of a text, and what is wanted instead after a token.
 
 ghost use Rattle.std.specs.Prelude.{◌≡◌};
 ghost use Rattle.std.specs.Option.{option_map};
@@ -35,48 +35,48 @@ pub(crate) enum Wanted {
     Size,
     /// A number from 1 on.
     Members,
-    /// A number, behind a minus or without one.
+    /// A number, after a minus or without one.
     Initial,
-    /// Names, and the semicolon behind them.
+    /// Names, and the semicolon after them.
     Params,
     /// A comma and further names, or the semicolon.
     MoreParams,
-    /// Names, and the parenthesis behind them.
+    /// Names, and the parenthesis after them.
     Held,
     /// A comma and further names, or the parenthesis.
     MoreHeld,
-    /// Statements, and the brace behind them.
+    /// Statements, and the brace after them.
     Stmts,
     /// `else` and its block, or nothing.
     Else,
-    /// Expressions, and the semicolon behind them.
+    /// Expressions, and the semicolon after them.
     Args,
     /// A comma and further expressions, or the semicolon.
     MoreArgs,
-    /// References, and the parenthesis behind them.
+    /// References, and the parenthesis after them.
     Refs,
     /// A comma and further references, or the parenthesis.
     MoreRefs,
     /// An index in its brackets, or nothing.
     Index,
     Expr,
-    /// Behind an operand of an expression, an operator and what follows it, or nothing.
+    /// After an operand of an expression, an operator and what follows it, or nothing.
     InExpr,
     /// A side of a comparison.
     Sum,
-    /// Behind an operand of the right side of a comparison, an operator and what follows it, or nothing.
+    /// After an operand of the right side of a comparison, an operator and what follows it, or nothing.
     InSum,
-    /// The name of a cown, and behind it the size of an array, or nothing.
+    /// The name of a cown, and after it the size of an array, or nothing.
     CownName,
-    /// A name behind a comma.
+    /// A name after a comma.
     NextName,
-    /// An argument behind a comma.
+    /// An argument after a comma.
     NextArg,
-    /// A reference behind a comma.
+    /// A reference after a comma.
     NextRef,
 }
 
-/// What is wanted behind a token, in place of what was wanted where it stands; nothing where it isn't what was wanted.
+/// Returns what is wanted after a token, instead of what was wanted where it is; nothing where it isn't what was wanted.
 pub(crate) fn behind(token: Token<'_>, wanted: Wanted) -> Option<&'static [Wanted]>
     ensures { option_map (λ all. all.now) result ≡ behind (token_of token.entry) wanted }
 {
@@ -191,7 +191,7 @@ fn behind_assign(wanted: Wanted) -> Option<&'static [Wanted]>
     }
 }
 
-// An operator that binds more tightly than a comparison.
+// Returns what is wanted after an operator that binds more tightly than a comparison.
 fn behind_operator(wanted: Wanted) -> Option<&'static [Wanted]>
     ensures { option_map (λ all. all.now) result ≡ behind_operator wanted }
 {
@@ -303,7 +303,7 @@ fn behind_comma(wanted: Wanted) -> Option<&'static [Wanted]>
 }
 
 impl Wanted {
-    /// Whether it may be left out.
+    /// Returns whether it may be left out.
     pub(crate) fn may_be_left_out(self) -> bool
         ensures { result ≡ may_be_left_out self }
     {

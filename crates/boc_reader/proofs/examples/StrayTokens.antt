@@ -44,7 +44,7 @@ goes_wrong = record {
   ends = λ same _. omega (arith, same);
 }
 
--- it is told at the byte of the number
+-- it is reported at the byte of the number
 pub told : ShapeFaultStandsAt faults.Unexpected text 11
 unfolding tokens_of_text cut token_of_run
 told = record {
@@ -269,7 +269,7 @@ ends_at_its_end = record { tokens = cut_short; has_tokens = refl; before = 2; sa
 pub right : (before : ℕ) → ShapeGoesWrong (tree_tokens tree) before → ⊥
 right before = whole_is_right (tree_tokens tree) before (record { tree = tree; arrays = tt; tokens_are = refl })
 
--- A comment behind the number spells it too, so that the text has the same tokens from there on.
+-- A comment after the number spells it too, so that the text has the same tokens from there on.
 
 abbrev with_comment : List ℕ
 with_comment = codes "main { let 5 # 5\n}"

@@ -50,7 +50,7 @@ unknown = refl
 not_yet : verdict 0 (tree_uses (tree [] [] (next (declare x (of_name x)) done))) ≡ wrong UnknownName 1
 not_yet = refl
 
--- main { if 1 { let x = 1; } x = 1; }: behind its block it is free again
+-- main { if 1 { let x = 1; } x = 1; }: after its block it is free again
 free_again : verdict 0 (tree_uses (tree [] [] (next (if_only (of_number 1) (next (declare x (of_number 1)) done)) (next (assign x (of_number 1)) done))))
     ≡ wrong UnknownName 1
 free_again = refl
@@ -72,7 +72,7 @@ index_on_parameter : verdict 0 (tree_uses (tree (single a ∷ []) (def f [] (x �
     ≡ wrong WrongCount 4
 index_on_parameter = refl
 
--- A whole text: an array is named without an index. Its name stands in a comment too, and that of another wrong name behind it.
+-- A whole text: an array is named without an index. Its name stands in a comment too, and that of another wrong name after it.
 
 abbrev text : List ℕ
 text = codes "cown a[2] = 0; # f(;a) a\ndef f(; x) { }\nmain { when f(; a); x = 1; }\n"
@@ -116,6 +116,6 @@ goes_wrong = record {
 not_in_the_comment : NameGoesWrong WrongCount text 20 → ⊥
 not_in_the_comment h = let e : 20 ≡ 56 = (one_wrong_name WrongCount WrongCount text 20 56 h goes_wrong).1 in absurd (cc e)
 
--- and the text does not go wrong by the unknown name behind it, or by this one in another way
+-- and the text does not go wrong by the unknown name after it, or by this one in another way
 no_other : (fault : NameFault) (at : ℕ) → NameGoesWrong fault text at → (fault ≡ WrongCount) × (at ≡ 56)
 no_other fault at h = one_wrong_name fault WrongCount text at 56 h goes_wrong

@@ -14,7 +14,7 @@ use crate::shape::{self, NamedCown, Spot};
 use boc_program::body::{Block, CownRef, Stmt};
 use std::alloc::Global;
 
-// The cown that a name alone stands for: a cown parameter, or a single cown.
+// Returns the cown that a name alone stands for: a cown parameter, or a single cown.
 fn resolve_alone(outside: &Outside<'_, '_>, spot: &Spot<'_>) -> Result<CownRef, Unresolved>
     ensures { Yields cown_ref_of result (held_or_single (slot_of_spec (outside_of outside.now).held spot.now.name.now)
         (global (outside_of outside.now).top spot.now.name.now)) }
@@ -28,7 +28,7 @@ fn resolve_alone(outside: &Outside<'_, '_>, spot: &Spot<'_>) -> Result<CownRef, 
     }
 }
 
-// A member of an array.
+// Resolves a member of an array.
 fn resolve_member(
     alloc: Global,
     outside: &Outside<'_, '_>,
@@ -66,7 +66,7 @@ fn resolve_ref(
     }
 }
 
-// Each of several references, in their order.
+// Resolves each of several references, in their order.
 fn resolve_refs(
     alloc: Global,
     outside: &Outside<'_, '_>,
@@ -84,7 +84,7 @@ fn resolve_refs(
     Ok(all)
 }
 
-// A `when`, which gives its def as many arguments and cowns as it takes.
+// Resolves a `when`, which gives its def as many arguments and cowns as it takes.
 fn resolve_call(
     alloc: Global,
     outside: &Outside<'_, '_>,
@@ -107,7 +107,7 @@ fn resolve_call(
     Ok(Stmt::When(kind, args, references))
 }
 
-// A `let`, which puts its name into the scope once its expression is resolved.
+// Resolves a `let`, which puts its name into the scope once its expression is resolved.
 fn resolve_let<'a>(
     alloc: Global,
     outside: &Outside<'_, 'a>,
@@ -128,7 +128,7 @@ fn resolve_let<'a>(
     Ok(Stmt::Assign(slot, value))
 }
 
-// An assignment to a name in scope.
+// Resolves an assignment to a name in scope.
 fn resolve_assign(
     alloc: Global,
     scope: &[&str],
@@ -144,7 +144,7 @@ fn resolve_assign(
     Ok(Stmt::Assign(slot, value))
 }
 
-// A statement.
+// Resolves a statement.
 #[cycle(resolve)]
 fn resolve_stmt<'a>(
     alloc: Global,
@@ -173,7 +173,7 @@ fn resolve_stmt<'a>(
     }
 }
 
-// An `if`. Without `else` the other block is empty.
+// Resolves an `if`. Without `else` the other block is empty.
 #[cycle(resolve)]
 fn resolve_choice<'a>(
     alloc: Global,
@@ -193,7 +193,7 @@ fn resolve_choice<'a>(
     Ok(Stmt::If(condition, block, other))
 }
 
-// A `repeat`.
+// Resolves a `repeat`.
 #[cycle(resolve)]
 fn resolve_repeat<'a>(
     alloc: Global,
@@ -210,7 +210,7 @@ fn resolve_repeat<'a>(
     Ok(Stmt::Repeat(turns, block))
 }
 
-/// The statements of a block. The names that it declares are free again behind it.
+/// Resolves the statements of a block. The names that it declares are free again after it.
 #[cycle(resolve)]
 pub fn resolve_block<'a>(
     alloc: Global,

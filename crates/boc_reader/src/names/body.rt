@@ -18,7 +18,7 @@ use crate::shape::{self, Spot};
 use boc_program::body::{Block, Body, Stmt};
 use std::alloc::{AllocError, Global};
 
-// One slot more than the greatest that a block writes, and `least` at the least.
+// Returns one slot more than the greatest that a block writes, and at least `least`.
 #[cycle(slots)]
 fn block_slots(block: &Block, least: usize) -> usize
     requires { deepest least block.now ≤ MOST_SLOTS }
@@ -69,7 +69,7 @@ fn declare<'a>(
     Ok(())
 }
 
-// The names in scope as a body begins: its value parameters, then its cown parameters.
+// Returns the names in scope as a body begins: its value parameters, then its cown parameters.
 fn parameters<'a>(
     alloc: Global,
     top: &Top<'a>,
@@ -84,7 +84,7 @@ fn parameters<'a>(
     Ok(scope)
 }
 
-// A body of parts that fit, with a slot for each parameter and for each slot that it writes.
+// Returns a body of parts that fit, with a slot for each parameter and for each slot that it writes.
 fn fitting(
     alloc: Global,
     params: usize,
@@ -100,7 +100,7 @@ fn fitting(
     Body::new(alloc, params, cown_params, slots, block)
 }
 
-/// The body of these parameters and this block.
+/// Returns the body of these parameters and this block.
 pub fn resolve_body<'a>(
     alloc: Global,
     top: &Top<'a>,

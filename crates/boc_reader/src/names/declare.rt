@@ -18,7 +18,7 @@ use boc_program::cown::Cown;
 use boc_program::text::Name;
 use std::alloc::{AllocError, Global};
 
-// The size of an array, if a cown is one.
+// Returns the size of an array, if a cown is one.
 fn array_size(cown: &CownShape<'_>) -> Option<u32>
     requires { members cown.now.size ≤ MOST_COWNS }
     ensures { result ≡ cown.now.size }
@@ -29,14 +29,14 @@ fn array_size(cown: &CownShape<'_>) -> Option<u32>
     }
 }
 
-// How many cowns a declaration makes: one, or as many as the array has members.
+// Returns how many cowns a declaration makes: one, or as many as the array has members.
 fn members(size: Option<u32>) -> u32
     ensures { result ≡ members size }
 {
     size.unwrap_or(1)
 }
 
-// The cowns, each with the number of its first member. No name may stand twice.
+// Returns the cowns, each with the number of its first member. No name may occur twice.
 fn declare_cowns<'a>(alloc: Global, cowns: &[CownShape<'a>]) -> Result<Vec<TopCown<'a>>, Unresolved>
     requires { cowns_declared (map cown_of cowns.now) ≤ MOST_COWNS }
     ensures { Yields (λ v. map global_of v.items) result (cowns_behind [] 0 (map cown_of cowns.now)) }
@@ -58,7 +58,7 @@ fn declare_cowns<'a>(alloc: Global, cowns: &[CownShape<'a>]) -> Result<Vec<TopCo
     Ok(declared)
 }
 
-// The defs that are the first of their names.
+// Returns the defs that are the first of their names.
 fn declare_defs<'a>(
     alloc: Global,
     cowns: &[TopCown<'a>],
@@ -79,7 +79,7 @@ fn declare_defs<'a>(
     Ok(declared)
 }
 
-/// What is declared at the top of the whole text.
+/// Returns what is declared at the top of the whole text.
 pub fn declare_top<'a>(alloc: Global, tree: &Tree<'a>) -> Result<Top<'a>, Unresolved>
     requires { cowns_declared (tree_of tree.now).cowns ≤ MOST_COWNS }
     ensures top { Yields declared_of result (top_in_order (tree_of tree.now)) }
@@ -90,7 +90,7 @@ pub fn declare_top<'a>(alloc: Global, tree: &Tree<'a>) -> Result<Top<'a>, Unreso
     Ok(Top { cowns, defs })
 }
 
-/// The names of cowns.
+/// Returns the names of cowns.
 pub fn names_of_cowns<'a>(alloc: Global, cowns: &[TopCown<'a>]) -> Result<Vec<&'a str>, AllocError>
     ensures { IfOk result (λ v. names_of v.items ≡ cown_names (map global_of cowns.now)) }
 {
@@ -101,7 +101,7 @@ pub fn names_of_cowns<'a>(alloc: Global, cowns: &[TopCown<'a>]) -> Result<Vec<&'
     Ok(names)
 }
 
-// A cown as the program has it.
+// Returns a cown as the program has it.
 fn resolve_cown(alloc: Global, cown: &CownShape<'_>) -> Result<Cown, AllocError>
     requires { members cown.now.size ≤ MOST_COWNS }
     ensures { IfOk result (λ made. plain_declared made ≡ plain_cown (cown_of cown.now)) }
@@ -113,7 +113,7 @@ fn resolve_cown(alloc: Global, cown: &CownShape<'_>) -> Result<Cown, AllocError>
     })
 }
 
-/// The cowns as the program has them.
+/// Returns the cowns as the program has them.
 pub fn resolve_cowns(alloc: Global, cowns: &[CownShape<'_>]) -> Result<Vec<Cown>, AllocError>
     requires { cowns_declared (map cown_of cowns.now) ≤ MOST_COWNS }
     ensures { IfOk result (λ v. map plain_declared v.items ≡ map plain_cown (map cown_of cowns.now)) }

@@ -14,14 +14,14 @@ use crate::shape::{self, Atom, Sum, Term, Unary};
 use boc_program::body::{Expr, Operator};
 use std::alloc::{AllocError, Global};
 
-// The place of a name among those in scope.
+// Returns the place of a name among those in scope.
 fn index_in_scope(scope: &[&str], name: &str) -> Option<usize>
     ensures { result ≡ position (λ known. bytes_eq known.now name.now) scope.now }
 {
     scope.iter().position(|known| *known == name)
 }
 
-/// The slot of a name in scope.
+/// Returns the slot of a name in scope.
 pub fn slot_of(scope: &[&str], name: &str) -> Option<usize>
     ensures { result ≡ slot_of_spec (names_of scope.now) name.now }
 {
@@ -60,7 +60,7 @@ fn multiplies(operator: TermOperator) -> Operator
     }
 }
 
-// The operand behind what stands to the left of it.
+// Joins the operand to what is to the left of it.
 fn join(alloc: Global, left: Option<(Expr, Operator)>, right: Expr) -> Result<Expr, AllocError>
     ensures { IfOk result (λ e. slot_expr_of e ≡ joined (left_of left) (slot_expr_of right)) }
 {
@@ -74,7 +74,7 @@ fn join(alloc: Global, left: Option<(Expr, Operator)>, right: Expr) -> Result<Ex
     }
 }
 
-/// An expression, with the slot of each name.
+/// Resolves an expression, with the slot of each name.
 #[cycle(names)]
 pub fn resolve_expr(
     alloc: Global,
@@ -164,7 +164,7 @@ fn resolve_atom(alloc: Global, scope: &[&str], atom: &Atom<'_>) -> Result<Expr, 
     }
 }
 
-/// Each of several expressions, in their order.
+/// Resolves each of several expressions, in their order.
 pub fn resolve_exprs(
     alloc: Global,
     scope: &[&str],

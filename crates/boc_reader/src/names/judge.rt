@@ -20,10 +20,10 @@ use crate::names::top::{Outside, Top, is_name};
 use crate::shape::{CownShape, DefShape, Spot, Stmt, Tree};
 use std::alloc::Global;
 
-/// How many names stand up to the end of a part, where they are right. Otherwise the first wrong one stands behind so many.
+/// How many names there are up to the end of a part, where they are right. Otherwise the first wrong one comes after this many.
 pub type Verdict = Result<usize, Fault<NameFault>>;
 
-// Parameters, which it puts into the scope.
+// Judges parameters, which it puts into the scope.
 fn judge_parameters<'a>(
     top: &Top<'a>,
     scope: &mut Vec<&'a str>,
@@ -40,7 +40,7 @@ fn judge_parameters<'a>(
     Ok(count)
 }
 
-// A body: its value parameters, its cown parameters, and its block.
+// Judges a body: its value parameters, its cown parameters, and its block.
 fn judge_body<'a>(
     alloc: Global,
     top: &Top<'a>,
@@ -57,7 +57,7 @@ fn judge_body<'a>(
     judge_block(&Outside { top, held }, &mut scope, block, count)
 }
 
-// What is wrong with a name that is declared at the top, where these stand before it.
+// Returns what is wrong with a name that is declared at the top, where these come before it.
 fn new_fault(before: &[&str], name: &str) -> Option<NameFault>
     ensures { result ≡ new_fault (names_of before.now) name.now }
 {
@@ -68,7 +68,7 @@ fn new_fault(before: &[&str], name: &str) -> Option<NameFault>
     }
 }
 
-// The names of the cowns, which it puts behind those before them.
+// Judges the names of the cowns, which it appends to those before them.
 fn judge_cowns<'a>(before: &mut Vec<&'a str>, cowns: &[CownShape<'a>], mut count: usize) -> Verdict
     ensures said { Judges result (cowns_verdict (names_of before.old.items) (map (λ c. c.name) (map cown_of cowns.now)) count) }
     ensures before { OnOk result (names_of before.new.items ≡ names_of before.old.items ++ map (λ c. c.name) (map cown_of cowns.now)) }
@@ -80,7 +80,7 @@ fn judge_cowns<'a>(before: &mut Vec<&'a str>, cowns: &[CownShape<'a>], mut count
     Ok(count)
 }
 
-// The names of the defs, each with those of its body.
+// Judges the names of the defs, each with those of its body.
 fn judge_defs<'a>(
     alloc: Global,
     top: &Top<'a>,
@@ -98,7 +98,7 @@ fn judge_defs<'a>(
     Ok(count)
 }
 
-/// The verdict on the names of a tree, in the order of the text.
+/// Returns the verdict on the names of a tree, in the order of the text.
 pub fn judge_tree(alloc: Global, tree: &Tree<'_>) -> Verdict
     requires { cowns_declared (tree_of tree.now).cowns ≤ MOST_COWNS }
     ensures { Judges result (verdict 0 (tree_uses (tree_of tree.now))) }

@@ -34,7 +34,7 @@ pub struct Top<'a> {
     pub defs: Vec<Callee<'a>>,
 }
 
-/// What a body sees beside the names in scope: the top, and its cown parameters.
+/// What a body sees in addition to the names in scope: the top, and its cown parameters.
 #[derive(Clone, Copy)]
 pub struct Outside<'t, 'a> {
     pub top: &'t Top<'a>,
@@ -77,28 +77,28 @@ fn is_known(scope: &[&str], name: &str) -> bool
     scope.contains(&name)
 }
 
-/// A name is that of one of these cowns.
+/// Returns whether a name is that of one of these cowns.
 pub fn is_cown_name(cowns: &[Global<'_>], name: &str) -> bool
     ensures { result ≡ among (cown_names (map global_of cowns.now)) name.now }
 {
     is_cown(cowns, name)
 }
 
-/// A name is that of one of these cowns or defs.
+/// Returns whether a name is that of one of these cowns or defs.
 pub fn is_declared(cowns: &[Global<'_>], defs: &[Callee<'_>], name: &str) -> bool
     ensures { result ≡ among (top_names (record { cowns = map global_of cowns.now; defs = map callee_of defs.now })) name.now }
 {
     is_cown(cowns, name) || is_def(defs, name)
 }
 
-/// A name is one of several.
+/// Returns whether a name is one of several.
 pub fn is_name(names: &[&str], name: &str) -> bool
     ensures { result ≡ among (names_of names.now) name.now }
 {
     is_known(names, name)
 }
 
-/// The place of a cown parameter.
+/// Returns the place of a cown parameter.
 pub fn parameter_of(held: &[Spot<'_>], name: &str) -> Option<usize>
     ensures { result ≡ slot_of (map name_of held.now) name.now }
 {
@@ -106,14 +106,14 @@ pub fn parameter_of(held: &[Spot<'_>], name: &str) -> Option<usize>
 }
 
 impl<'a> Top<'a> {
-    /// The cown, or the array of cowns, of a name.
+    /// Returns the cown, or the array of cowns, of a name.
     pub fn cown(&self, name: &str) -> Option<Global<'a>>
         ensures { option_map global_of result ≡ global (declared_of self.now) name.now }
     {
         find_cown(&self.cowns, name).copied()
     }
 
-    /// The kind of a def, and the def.
+    /// Returns the kind of a def, and the def.
     pub fn def(&self, name: &str) -> Option<(usize, Callee<'a>)>
         ensures kind { option_map (λ r. r.0) result ≡ kind_of (declared_of self.now) name.now }
         ensures callee { option_map (λ r. callee_of r.1) result ≡ callee (declared_of self.now) name.now }
@@ -122,7 +122,7 @@ impl<'a> Top<'a> {
         Some((place + 1, self.defs[place]))
     }
 
-    /// A name may be declared: it stands neither at the top nor in scope.
+    /// Returns whether a name may be declared: it is neither at the top nor in scope.
     pub fn leaves_free(&self, scope: &[&str], name: &str) -> bool
         ensures { result ≡ is_free (declared_of self.now) (names_of scope.now) name.now }
     {

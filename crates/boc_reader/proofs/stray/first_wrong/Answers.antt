@@ -4,7 +4,8 @@ use Rattle.boc_reader.specs.Tokens.{Token}
 use Rattle.boc_reader.specs.Placed.{token_of, tokens_of}
 use Rattle.boc_reader.specs.Room.{Within, within_behind}
 use Rattle.boc_reader.specs.WrongShape.{IsWrongThere}
-use Rattle.boc_reader.proofs.Strays.{after_is, none_at_end, placed_read, placed_within, says_at, shape_at_end, whole_at_end, wrong_at_end}
+use Rattle.boc_reader.proofs.Strays.{after_is, none_at_end, placed_read, placed_within, says_at}
+use Rattle.boc_reader.proofs.Strays.{shape_at_end, wanted_at_end, whole_at_end, within_at_end, wrong_at_end}
 use Rattle.boc_reader.proofs.stray.first_wrong.Goals as goal
 
 pub returns-in-Err : goal.returns-in-Err
@@ -16,8 +17,12 @@ returns-in-Err c =
     let h = rw c.in-Err.is at c.in_ok-left.ensures in
     let wrong : IsWrongThere c.in-Err.fault (token_of p.token) (drop (k + 1) (tokens_of ps)) s.wanted s.room =
     subst (λ (ts : List Token). IsWrongThere c.in-Err.fault (token_of p.token) ts s.wanted s.room)
-    (after_is ps k) h in
-    says_at c.in-Err.fault ps k p s c.loop-before-test.true c.index-tokens-before.is c.loop-before.invariant.0 c.loop-before.invariant.1 wrong
+    (after_is ps k) h.0 in
+    record {
+      says = says_at c.in-Err.fault ps k p s c.loop-before-test.true c.index-tokens-before.is c.loop-before.invariant.0 c.loop-before.invariant.1 wrong;
+      wanted_there = rw h.1 c.loop-before.invariant.0;
+      within_there = rw h.1 c.loop-before.invariant.1;
+    }
 
 pub loop-before-preserved : goal.loop-before-preserved
 loop-before-preserved c =
@@ -31,23 +36,29 @@ loop-before-preserved c =
           ∙ ap (λ (ts : List Token). within_behind (token_of p.token) ts s.wanted s.room) (sym (after_is ps k)) ∙ h.1,
     )
 
-pub unreachable-requires : goal.unreachable-requires
-unreachable-requires c =
+pub returns-then-is_empty : goal.returns-then-is_empty
+returns-then-is_empty c =
     let ps = c.args.tokens.now in
     let k = c.loop-before.before in
     let wanted = c.loop-before.wanted in
     let s : Within = record { wanted = reverse wanted.items; room = c.loop-before.room } in
-    let none = eqb-true (vec_len wanted) 0 (sym (c.if-is_empty.ensures)) in
+    let none = eqb-true (vec_len wanted) 0 (sym c.is_empty.ensures ∙ c.if-is_empty.true) in
     shape_at_end ps k s c.loop-before-test.false c.loop-before.invariant.1
-    (whole_at_end ps k wanted.items c.loop-before-test.false c.loop-before.invariant.0 (omega (arith, none, wanted.ok.0))) c.requires
+    (whole_at_end ps k wanted.items c.loop-before-test.false c.loop-before.invariant.0 (omega (arith, none, wanted.ok.0)))
 
 pub returns : goal.returns
 returns c =
     let ps = c.args.tokens.now in
     let k = c.loop-before.before in
     let wanted = c.loop-before.wanted in
-    let s : Within = record { wanted = reverse wanted.items; room = c.loop-before.room } in (
-      wrong_at_end ps k wanted.items c.loop-before-test.false c.loop-before.invariant.0
-          (λ none. let empty = eq-eqb (vec_len wanted) 0 (omega (arith, none, wanted.ok.0)) in let h = c.if-is_empty.ensures in absurd cc),
-      none_at_end ps k s c.loop-before-test.false c.loop-before.invariant.1,
-    )
+    let s : Within = record { wanted = reverse wanted.items; room = c.loop-before.room } in
+    let some = sym c.is_empty.ensures ∙ c.if-is_empty.false in
+    record {
+      says = (
+        wrong_at_end ps k wanted.items c.loop-before-test.false c.loop-before.invariant.0
+            (λ none. let empty = eq-eqb (vec_len wanted) 0 (omega (arith, none, wanted.ok.0)) in absurd cc),
+        none_at_end ps k s c.loop-before-test.false c.loop-before.invariant.1,
+      );
+      wanted_there = wanted_at_end ps k s.wanted c.loop-before-test.false c.loop-before.invariant.0;
+      within_there = within_at_end ps k s c.loop-before-test.false c.loop-before.invariant.1;
+    }

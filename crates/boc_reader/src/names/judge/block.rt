@@ -14,7 +14,7 @@ use crate::names::judge::expr::{judge_expr, judge_exprs, judge_name, variable_fa
 use crate::names::top::{Outside, Top, parameter_of};
 use crate::shape::{Expr, NamedCown, Spot, Stmt};
 
-// What is wrong with the name of a cown that stands without an index.
+// Returns what is wrong with the name of a cown that is written without an index.
 fn alone_fault(outside: &Outside<'_, '_>, name: &str) -> Option<NameFault>
     ensures { result ≡ alone_fault (slot_of (outside_of outside.now).held name.now) (global (outside_of outside.now).top name.now) }
 {
@@ -26,7 +26,7 @@ fn alone_fault(outside: &Outside<'_, '_>, name: &str) -> Option<NameFault>
     }
 }
 
-// What is wrong with the name of a cown in front of an index.
+// Returns what is wrong with the name of a cown before an index.
 fn member_fault(outside: &Outside<'_, '_>, name: &str) -> Option<NameFault>
     ensures { result ≡ member_fault (slot_of (outside_of outside.now).held name.now) (global (outside_of outside.now).top name.now) }
 {
@@ -54,7 +54,7 @@ fn judge_ref(
     }
 }
 
-// Each of several references, in their order.
+// Judges each of several references, in their order.
 fn judge_refs(
     outside: &Outside<'_, '_>,
     scope: &[&str],
@@ -69,7 +69,7 @@ fn judge_refs(
     Ok(count)
 }
 
-// What is wrong with the name of a def that is given so many arguments and cowns.
+// Returns what is wrong with the name of a def that is given this many arguments and cowns.
 fn callee_fault(top: &Top<'_>, name: &str, args: usize, cowns: usize) -> Option<NameFault>
     ensures { result ≡ callee_fault (callee (declared_of top.now) name.now) args cowns }
 {
@@ -80,7 +80,7 @@ fn callee_fault(top: &Top<'_>, name: &str, args: usize, cowns: usize) -> Option<
     }
 }
 
-// A `when`.
+// Judges a `when`.
 fn judge_call(
     outside: &Outside<'_, '_>,
     scope: &[&str],
@@ -98,7 +98,7 @@ fn judge_call(
     judge_refs(outside, scope, references, count)
 }
 
-/// What is wrong with a name that is declared.
+/// Returns what is wrong with a name that is declared.
 pub fn free_fault(top: &Top<'_>, scope: &[&str], name: &str) -> Option<NameFault>
     ensures { result ≡ free_fault (declared_of top.now) (names_of scope.now) name.now }
 {
@@ -109,7 +109,7 @@ pub fn free_fault(top: &Top<'_>, scope: &[&str], name: &str) -> Option<NameFault
     }
 }
 
-// A `let`, which puts its name into the scope behind its expression.
+// Judges a `let`, which puts its name into the scope after its expression.
 fn judge_let<'a>(
     outside: &Outside<'_, 'a>,
     scope: &mut Vec<&'a str>,
@@ -157,7 +157,7 @@ fn judge_stmt<'a>(
     }
 }
 
-// An expression, and a block behind it.
+// Judges an expression, and a block after it.
 #[cycle(judge)]
 fn judge_guarded<'a>(
     outside: &Outside<'_, 'a>,
@@ -173,7 +173,7 @@ fn judge_guarded<'a>(
     judge_block(outside, scope, block, count)
 }
 
-/// The statements of a block. The names that it declares are free again behind it.
+/// Judges the statements of a block. The names that it declares are free again after it.
 #[cycle(judge)]
 pub fn judge_block<'a>(
     outside: &Outside<'_, 'a>,

@@ -11,7 +11,7 @@ use crate::names::judge::Verdict;
 use crate::names::top::is_name;
 use crate::shape::{Atom, Expr, Sum, Term, Unary};
 
-/// A name that has this fault, or none, behind so many. More names than can be counted would be a want of memory.
+/// Judges a name that has this fault, or none, after `count` others. More names than can be counted would be reported as out of memory.
 pub fn judge_name(fault: Option<NameFault>, count: usize) -> Verdict
     ensures { Judges result (name_verdict fault count) }
 {
@@ -21,7 +21,7 @@ pub fn judge_name(fault: Option<NameFault>, count: usize) -> Verdict
     }
 }
 
-/// What is wrong with a name that has to be in scope.
+/// Returns what is wrong with a name that has to be in scope.
 pub fn variable_fault(scope: &[&str], name: &str) -> Option<NameFault>
     ensures { result ≡ variable_fault (names_of scope.now) name.now }
 {
@@ -32,7 +32,7 @@ pub fn variable_fault(scope: &[&str], name: &str) -> Option<NameFault>
     }
 }
 
-/// An expression.
+/// Judges an expression.
 #[cycle(judge)]
 pub fn judge_expr(scope: &[&str], expr: &Expr<'_>, count: usize) -> Verdict
     ensures { Judges result (expr_verdict (expr_of expr.now) (names_of scope.now) count) }
@@ -93,7 +93,7 @@ fn judge_atom(scope: &[&str], atom: &Atom<'_>, count: usize) -> Verdict
     }
 }
 
-/// Each of several expressions, in their order.
+/// Judges each of several expressions, in their order.
 pub fn judge_exprs(scope: &[&str], exprs: &[Expr<'_>], mut count: usize) -> Verdict
     ensures { Judges result (exprs_verdict (names_of scope.now) (map expr_of exprs.now) count) }
 {

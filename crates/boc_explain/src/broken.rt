@@ -1,290 +1,197 @@
 // Events that break a rule of runs: which one, by what.
 
-use crate::formed::{column_of, put_reason};
+use crate::formed::{column_of, is_space, number};
 use crate::limits::{COARSER_TICKS, FEWER_ROWS};
-use crate::names::record_cowns;
-use crate::run::{Life, Row, Run, fields_of};
+use crate::run::{Life, last_child, life_of, row_count, run_before};
 use boc_program::limits::{MOST_ROWS, MOST_TICKS};
-use boc_record::RecordFaultKind;
-use boc_said::said::{Part, Said};
+use boc_program::short::Cowns;
+use boc_record::{RecordFault, RecordFaultKind};
+use boc_rules::Judge;
+use boc_said::said::Part::{Many, Number};
+use boc_said::said::Said;
+use boc_text::read_number;
 use std::alloc::{AllocError, Global};
 
-/// Tells which rule the event of a line breaks, by what.
+/// Reports which rule the event of a line breaks, by what.
 pub(crate) fn put_broken(
     alloc: Global,
     said: &mut Said,
     text: &[u8],
     line: &[u8],
-    number: u64,
-    kind: RecordFaultKind,
+    fault: RecordFault,
 ) -> Result<(), AllocError> {
-    let Some(fields) = fields_of(alloc, line)? else {
-        return Ok(());
-    };
-    let run = Run::before(alloc, text, number)?;
-    let faulty = match kind {
+    let mut numbers = Vec::new(alloc);
+    for field in line.split(is_space).skip(1) {
+        if let Some(number) = read_number(field) {
+            numbers.push(number)?;
+        }
+    }
+    let run = run_before(alloc, text, fault.line)?;
+    let faulty = match fault.kind {
         RecordFaultKind::NumberNotNext => 1,
         RecordFaultKind::ParentNotRunning => 2,
         RecordFaultKind::Offset => 3,
         _ => 0,
     };
-    said.place.1 = column_of(line, faulty);
-    match (kind, fields.numbers.as_slice()) {
-        (RecordFaultKind::NumberNotNext, [_, ..]) if run.rows.len() >= MOST_ROWS => {
-            put_reason(
-                said,
-                line,
-                "a run has at most 65535 rows, and this is one more",
-            )?;
-            said.words(FEWER_ROWS)
-        }
-        (RecordFaultKind::NumberNotNext, [_, ..]) => said.line(&[
-            Part::Quote(line),
-            Part::Words(": the next row is "),
-            Part::Number(run.rows.len() as u64),
-        ]),
-        (RecordFaultKind::TooMany, _) => {
-            put_reason(said, line, "a run has at most 65535 rows")?;
-            said.words(FEWER_ROWS)
-        }
-        (RecordFaultKind::ParentNotRunning, [_, parent, ..]) => {
-            put_parent(said, line, &run, *parent)
-        }
-        (RecordFaultKind::Offset, [_, parent, offset, ..]) => {
-            put_offset(said, line, &run, *parent, *offset)
-        }
-        (RecordFaultKind::Cowns, [_, _, _, cowns @ ..]) => {
-            put_cowns(said, line, &run, cowns, record_cowns(text).unwrap_or(0))
-        }
-        (RecordFaultKind::StartNotAllowed, [row]) => put_start(said, line, &run, *row),
+    said.set_column(column_of(line, faulty));
+    match (fault.kind, numbers.as_slice()) {
+        (RecordFaultKind::StartNotAllowed, [row]) => put_start(said, &run, *row),
         (RecordFaultKind::EndNotAllowed, [row, ticks, _, written @ ..]) => {
-            put_end(said, line, &run, *row, *ticks, written)
+            put_end(said, &run, *row, *ticks, written)
+        }
+        (kind, [_, parent, offset, cowns @ ..]) => {
+            put_spawn(said, &run, kind, *parent, *offset, cowns)
         }
         _ => Ok(()),
     }
 }
 
-// Tells of a line what holds of a row.
-fn put_row<'a>(
+// Reports why a row can't be spawned so.
+fn put_spawn(
     said: &mut Said,
-    line: &'a [u8],
-    row: u32,
-    words: &'a str,
-) -> Result<(), AllocError> {
-    said.line(&[
-        Part::Quote(line),
-        Part::Words(": row "),
-        Part::Number(u64::from(row)),
-        Part::Words(words),
-    ])
-}
-
-fn put_parent(said: &mut Said, line: &[u8], run: &Run, parent: u32) -> Result<(), AllocError> {
-    if run.rows.is_empty() {
-        return put_reason(said, line, "row 0 is main; its parent must be 0");
-    }
-    match run.row(parent) {
-        None => put_row(said, line, parent, ", its parent, is not spawned yet"),
-        Some(row) if row.life == Life::Pending => {
-            put_row(said, line, parent, ", its parent, hasn't started")
-        }
-        Some(_) => put_row(said, line, parent, ", its parent, has ended"),
-    }
-}
-
-fn put_offset(
-    said: &mut Said,
-    line: &[u8],
-    run: &Run,
+    run: &Judge,
+    kind: RecordFaultKind,
     parent: u32,
     offset: u32,
-) -> Result<(), AllocError> {
-    if run.rows.is_empty() {
-        return put_reason(said, line, "row 0 is main; its offset must be 0");
-    }
-    if offset > MOST_TICKS {
-        put_reason(said, line, "an offset is at most 1000000")?;
-        return said.words(COARSER_TICKS);
-    }
-    match last_child(run, parent) {
-        Some((child, MOST_TICKS)) => {
-            let so = [
-                Part::Words(", the largest offset, and can spawn no more"),
-                Part::Words(""),
-            ];
-            put_spawned(said, line, [parent, child, MOST_TICKS], so)?;
-            said.words(COARSER_TICKS)
-        }
-        Some((child, tick)) => {
-            let least = u64::from(tick).saturating_add(1);
-            let so = [
-                Part::Words(", so the offset is at least "),
-                Part::Number(least),
-            ];
-            put_spawned(said, line, [parent, child, tick], so)
-        }
-        None => put_reason(said, line, "an offset is at least 1"),
-    }
-}
-
-// The last child of a row, and its offset.
-fn last_child(run: &Run, row: u32) -> Option<(u32, u32)> {
-    let child = run.row(row)?.last_child?;
-    Some((child, run.row(child)?.offset))
-}
-
-fn put_cowns(
-    said: &mut Said,
-    line: &[u8],
-    run: &Run,
     cowns: &[u32],
-    count: u32,
 ) -> Result<(), AllocError> {
-    if run.rows.is_empty() {
-        return put_reason(said, line, "row 0 is main, which has no cowns");
+    let is_full = run.count() >= MOST_ROWS;
+    let is_main = run.count() == 0;
+    let reason = match kind {
+        RecordFaultKind::NumberNotNext if is_full => {
+            "a run has at most 65535 rows, and this is one more"
+        }
+        RecordFaultKind::TooMany => "a run has at most 65535 rows",
+        RecordFaultKind::NumberNotNext => {
+            return said.about("the next row is ", &[Number(run.count() as u64)]);
+        }
+        RecordFaultKind::ParentNotRunning if is_main => "row 0 is main; its parent must be 0",
+        RecordFaultKind::Offset if is_main => "row 0 is main; its offset must be 0",
+        RecordFaultKind::Cowns if is_main => "row 0 is main, which has no cowns",
+        RecordFaultKind::ParentNotRunning => {
+            let words = match life_of(run, parent) {
+                None => "row {}, its parent, is not spawned yet",
+                Some(Life::Pending) => "row {}, its parent, hasn't started",
+                Some(_) => "row {}, its parent, has ended",
+            };
+            return said.about(words, &[number(parent)]);
+        }
+        RecordFaultKind::Offset => return put_offset(said, run, parent, offset),
+        _ => return put_cowns(said, run.cowns(), cowns),
+    };
+    said.about(reason, &[])?;
+    if is_full {
+        said.words(FEWER_ROWS)?;
     }
-    if let Some(cown) = cowns.iter().find(|cown| **cown >= count) {
-        return said.line(&[
-            Part::Quote(line),
-            Part::Words(": there is no cown "),
-            Part::Number(u64::from(*cown)),
-            Part::Words("; the first line declares "),
-            Part::Many(u64::from(count), "cown"),
-            Part::Words(", from 0 on"),
-        ]);
-    }
-    put_reason(said, line, "cowns must rise, each above the one before it")
+    Ok(())
 }
 
-fn put_start(said: &mut Said, line: &[u8], run: &Run, number: u32) -> Result<(), AllocError> {
-    let Some(row) = run.row(number) else {
-        return put_row(said, line, number, " is not spawned yet");
-    };
-    match row.life {
-        Life::Running => return put_row(said, line, number, " has started already"),
-        Life::Ended => return put_row(said, line, number, " has ended already"),
-        Life::Pending => {}
+fn put_offset(said: &mut Said, run: &Judge, parent: u32, offset: u32) -> Result<(), AllocError> {
+    match last_child(run.rows(), parent) {
+        _ if offset > MOST_TICKS => said.about("an offset is at most 1000000", &[])?,
+        None => return said.about("an offset is at least 1", &[]),
+        Some((child, MOST_TICKS)) => said.about(
+            "row {} spawned row {} at its tick 1000000, the largest offset, and can spawn no more",
+            &[number(parent), Number(child)],
+        )?,
+        Some((child, tick)) => {
+            let least = number(tick.saturating_add(1));
+            return said.about(
+                "row {} spawned row {} at its tick {}, so the offset is at least ",
+                &[number(parent), Number(child), number(tick), least],
+            );
+        }
     }
-    for (other, before) in run.rows.iter().enumerate() {
-        let in_way = match before.life {
-            Life::Running => true,
-            Life::Pending => other < number as usize,
-            Life::Ended => false,
-        };
-        if in_way && let Some(cown) = common(before, row) {
-            return put_in_way(said, line, other as u64, before.life, number, cown);
+    said.words(COARSER_TICKS)
+}
+
+fn put_cowns(said: &mut Said, count: u32, cowns: &[u32]) -> Result<(), AllocError> {
+    for cown in cowns {
+        if *cown >= count {
+            let parts = [number(*cown), Many(u64::from(count), "cown")];
+            let words = "there is no cown {}; the first line declares {}, from 0 on";
+            return said.about(words, &parts);
+        }
+    }
+    said.about("cowns must rise, each above the one before it", &[])
+}
+
+// Reports which row is in the way of a start, over which cown.
+fn put_start(said: &mut Said, run: &Judge, row: u32) -> Result<(), AllocError> {
+    match life_of(run, row) {
+        None => return said.about("row {} is not spawned yet", &[number(row)]),
+        Some(Life::Running) => return said.about("row {} has started already", &[number(row)]),
+        Some(Life::Ended) => return said.about("row {} has ended already", &[number(row)]),
+        Some(Life::Pending) => {}
+    }
+    for other in 0..row_count(run) {
+        let life = life_of(run, other);
+        let is_first = life == Some(Life::Pending) && other < row;
+        if let Some(cown) = common_cown(run, other, row) {
+            if life == Some(Life::Running) {
+                let words = "row {} is running, and has cown {} too";
+                return said.about(words, &[number(other), number(cown)]);
+            }
+            if is_first {
+                return said.about(
+                    "row {} was spawned before row {}, hasn't started, and has cown {} too",
+                    &[number(other), number(row), number(cown)],
+                );
+            }
         }
     }
     Ok(())
 }
 
-// The first cown that two rows have.
-fn common(one: &Row, other: &Row) -> Option<u32> {
-    one.cowns
-        .iter()
-        .copied()
-        .find(|cown| other.cowns.contains(cown))
+// The first cown of a row that another one has too.
+fn common_cown(run: &Judge, row: u32, other: u32) -> Option<u32> {
+    let others = run.cowns_of(other)?.as_slice();
+    for cown in run.cowns_of(row)?.as_slice() {
+        if others.contains(cown) {
+            return Some(u32::from(*cown));
+        }
+    }
+    None
 }
 
-// Tells which row is in the way of a start, over which cown.
-fn put_in_way(
-    said: &mut Said,
-    line: &[u8],
-    other: u64,
-    life: Life,
-    row: u32,
-    cown: u32,
-) -> Result<(), AllocError> {
-    let row = Part::Number(u64::from(row));
-    let (begin, row, end) = match life {
-        Life::Pending => (
-            " was spawned before row ",
-            row,
-            ", hasn't started, and has cown ",
-        ),
-        _ => (" is running, and has cown ", Part::Words(""), ""),
-    };
-    said.line(&[
-        Part::Quote(line),
-        Part::Words(": row "),
-        Part::Number(other),
-        Part::Words(begin),
-        row,
-        Part::Words(end),
-        Part::Number(u64::from(cown)),
-        Part::Words(" too"),
-    ])
-}
-
+// Reports why a row can't end so.
 fn put_end(
     said: &mut Said,
-    line: &[u8],
-    run: &Run,
-    number: u32,
+    run: &Judge,
+    row: u32,
     ticks: u32,
     written: &[u32],
 ) -> Result<(), AllocError> {
-    let Some(row) = run.row(number) else {
-        return put_row(said, line, number, " is not spawned yet");
-    };
-    match row.life {
-        Life::Pending => return put_row(said, line, number, " hasn't started"),
-        Life::Ended => return put_row(said, line, number, " has ended already"),
-        Life::Running => {}
+    match life_of(run, row) {
+        None => return said.about("row {} is not spawned yet", &[number(row)]),
+        Some(Life::Pending) => return said.about("row {} hasn't started", &[number(row)]),
+        Some(Life::Ended) => return said.about("row {} has ended already", &[number(row)]),
+        Some(Life::Running) => {}
     }
     if ticks > MOST_TICKS {
-        said.line(&[
-            Part::Quote(line),
-            Part::Words(": "),
-            Part::Number(u64::from(ticks)),
-            Part::Words(" ticks; a row takes at most 1000000"),
-        ])?;
+        said.about("{} ticks; a row takes at most 1000000", &[number(ticks)])?;
         return said.words(COARSER_TICKS);
     }
-    if let Some((child, tick)) = last_child(run, number)
+    if let Some((child, tick)) = last_child(run.rows(), row)
         && tick > ticks
     {
-        let least = Part::Many(u64::from(tick), "tick");
-        let so = [Part::Words(", so it takes at least "), least];
-        return put_spawned(said, line, [number, child, tick], so);
+        let least = Many(u64::from(tick), "tick");
+        return said.about(
+            "row {} spawned row {} at its tick {}, so it takes at least ",
+            &[number(row), Number(child), number(tick), least],
+        );
     }
     if ticks == 0 {
-        return put_reason(said, line, "0 ticks; a row takes at least 1");
+        return said.about("0 ticks; a row takes at least 1", &[]);
     }
-    match written.iter().find(|cown| !row.cowns.contains(*cown)) {
-        Some(cown) => said.line(&[
-            Part::Quote(line),
-            Part::Words(": row "),
-            Part::Number(u64::from(number)),
-            Part::Words(" doesn't have cown "),
-            Part::Number(u64::from(*cown)),
-        ]),
-        None => put_reason(
-            said,
-            line,
-            "written cowns must rise, each above the one before it",
-        ),
+    let own = match run.cowns_of(row) {
+        Some(own) => own.widened(),
+        None => Cowns::new(),
+    };
+    for cown in written {
+        if !own.contains(cown) {
+            return said.about("row {} doesn't have cown ", &[number(row), number(*cown)]);
+        }
     }
-}
-
-// Tells at which tick a row spawned its last child, and what follows from that.
-fn put_spawned<'a>(
-    said: &mut Said,
-    line: &'a [u8],
-    numbers: [u32; 3],
-    so: [Part<'a>; 2],
-) -> Result<(), AllocError> {
-    let [row, child, tick] = numbers;
-    let [words, bound] = so;
-    said.line(&[
-        Part::Quote(line),
-        Part::Words(": row "),
-        Part::Number(u64::from(row)),
-        Part::Words(" spawned row "),
-        Part::Number(u64::from(child)),
-        Part::Words(" at its tick "),
-        Part::Number(u64::from(tick)),
-        words,
-        bound,
-    ])
+    said.about("written cowns must rise, each above the one before it", &[])
 }

@@ -1,94 +1,41 @@
 // Words of a command line that are refused: one that is no edit, two files where one is read, an option of other commands, and one that is no command.
 
-use crate::formed::{put_reason, reason_of};
+ghost use Rattle.std.specs.Prelude.{IfOk, string_bytes};
+ghost use Rattle.boc_said.specs.Lines.{AreLines};
+
+use crate::formed::{are_digits, put_no_number};
 use boc_program::limits::MOST_PART;
 use boc_said::place::pair_words;
-use boc_said::said::{Part, Said};
+use boc_said::said::Part::{Bytes, Quote, Words};
+use boc_said::said::Said;
 use boc_text::read_number;
 use std::alloc::{AllocError, Global};
 use strsim::osa_distance;
 
-// The options with a value, which is the word behind them.
-const WITH_VALUE: [&[u8]; 13] = [
-    b"--workers",
-    b"-w",
-    b"--seed",
-    b"--depth",
-    b"--runs",
-    b"--p",
-    b"-p",
-    b"--best",
-    b"--top",
-    b"--without",
-    b"--program",
-    b"--record",
-    b"--names",
-];
+// The options with a value, which is the word after them.
+const WITH_VALUE: &str =
+    "--workers -w --seed --depth --runs --p -p --best --top --without --program --record --names";
 
 // The command whose words are edits too.
-pub(crate) const WHATIF: &[u8] = b"whatif";
+const WHATIF: &[u8] = b"whatif";
 
-/// What is told of a word that should be an edit and is none: that with this number among those that look like one, counted from 1.
-/// The program's own name is the first of the words.
-pub fn explain_edit_word(
-    alloc: Global,
-    words: &[String],
-    number: usize,
-) -> Result<String, AllocError> {
-    let mut said = Said::new(alloc);
-    let mut counted: usize = 0;
-    for word in operands(alloc, words)? {
-        if is_edit(word) {
-            counted = counted.saturating_add(1);
-            if counted == number {
-                put_no_edit(&mut said, word)?;
-            }
-        }
-    }
-    Ok(said.into_text())
-}
-
-// The commands that read a program, and the record of a run of it from the file beside it.
+// The commands that read a program, and the record of a run of it from the file next to it.
 const OF_PROGRAMS: [&[u8]; 3] = [b"values", b"why", b"cowns"];
 
-// The commands that read a record, and its program from the file beside it.
+// The commands that read a record, and its program from the file next to it.
 const OF_RECORDS: [&[u8]; 2] = [b"check", WHATIF];
 
-/// What is told of words that the parser refuses with this text: that they name two files to read the input from, or the program or the record by the
-/// option of other commands, or that a word which is no command is near to one of these.
-pub fn explain_words(
-    alloc: Global,
-    words: &[String],
-    commands: &[&str],
-    told: &str,
-) -> Result<String, AllocError> {
-    let mut said = Said::new(alloc);
-    let command = words.get(1).map_or(b"".as_slice(), |word| word.as_bytes());
-    if let Some(word) = no_command(words, told.as_bytes()) {
-        put_nearest(alloc, &mut said, commands, word)?;
-        return Ok(said.into_text());
-    }
-    match refused_files(alloc, words, command, told.as_bytes())? {
-        Some(files) => put_files(&mut said, command, files)?,
-        None => put_option(&mut said, command, told.as_bytes())?,
-    }
-    Ok(said.into_text())
-}
-
-// What the parser says of a word that is no command begins so, the word behind it.
+// What the parser says of a word that is no command begins so, the word after it.
 const UNRECOGNIZED: &[u8] = b"error: unrecognized subcommand '";
 
-// What the parser says behind that word where it names no command that is like it.
+// What the parser says after that word where it names no command that is like it.
 const WITHOUT_TIP: &[u8] = b"'\n\nUsage: ";
 
-// The word that the parser's text refuses as a command, where it names none that is like it.
-fn no_command<'w>(words: &'w [String], told: &[u8]) -> Option<&'w str> {
-    let rest = behind(told, UNRECOGNIZED)?;
-    words.iter().skip(1).map(|word| word.as_str()).find(|word| behind(
-        rest,
-        word.as_bytes(),
-    ).is_some_and(|rest| rest.starts_with(WITHOUT_TIP)))
-}
+// What the parser says of a word that it doesn't expect begins so, the word after it.
+const UNEXPECTED: &[u8] = b"error: unexpected argument '";
+
+// What it says where there is one FILE too many, and it names none.
+const TWO_FILES: &[u8] = b"error: the input cannot be read from more than one FILE";
 
 // A word is near to a name where so many edits lead from the one to the other: a byte more, less or another one, or two that change places.
 const MOST_EDITS: usize = 2;
@@ -96,7 +43,70 @@ const MOST_EDITS: usize = 2;
 // So many bytes of a word may have one edit.
 const BYTES_PER_EDIT: usize = 3;
 
-// Tells which of these commands a word is near to, if there is one.
+/// Returns what is reported of a word that should be an edit and is none: that with this number among those that look like one, counted from 1.
+/// The program's own name is the first of the words.
+pub fn explain_edit_word(
+    alloc: Global,
+    words: &[String],
+    number: usize,
+) -> Result<String, AllocError>
+    ensures { IfOk result (λ told. AreLines (string_bytes told)) }
+{
+    let mut said = Said::new(alloc);
+    let mut counted: usize = 0;
+    for word in operands(alloc, words)? {
+        if is_edit(word) {
+            counted = counted.saturating_add(1);
+            if counted == number {
+                said.set_subject(word)?;
+                put_no_edit(&mut said, word)?;
+            }
+        }
+    }
+    said.into_text(None)
+}
+
+/// Returns what is reported of words that the parser refuses with this text: that they name two files to read the input from, or the program or the record by
+/// the option of other commands, or that a word which is no command is near to one of these.
+pub fn explain_words(
+    alloc: Global,
+    words: &[String],
+    commands: &[&str],
+    told: &str,
+) -> Result<String, AllocError>
+    ensures { IfOk result (λ told. AreLines (string_bytes told)) }
+{
+    let mut said = Said::new(alloc);
+    let told = told.as_bytes();
+    if let Some(word) = no_command(words, told) {
+        put_nearest(alloc, &mut said, commands, word)?;
+    } else {
+        let command: &[u8] = match words {
+            [_, command, ..] => command.as_bytes(),
+            _ => b"",
+        };
+        let is_told = put_files(alloc, &mut said, words, command, told)?;
+        if !is_told {
+            put_option(&mut said, command, told)?;
+        }
+    }
+    said.into_text(None)
+}
+
+// The word that the parser's text refuses as a command, where it names none that is like it.
+fn no_command<'w>(words: &'w [String], told: &[u8]) -> Option<&'w str> {
+    let rest = told.strip_prefix(UNRECOGNIZED)?;
+    for word in words.iter().skip(1) {
+        if let Some(behind) = rest.strip_prefix(word.as_bytes())
+            && behind.starts_with(WITHOUT_TIP)
+        {
+            return Some(word);
+        }
+    }
+    None
+}
+
+// Reports which of these commands a word is near to, if there is one.
 fn put_nearest(
     alloc: Global,
     said: &mut Said,
@@ -104,109 +114,77 @@ fn put_nearest(
     word: &str,
 ) -> Result<(), AllocError> {
     let most = (word.len() / BYTES_PER_EDIT).clamp(1, MOST_EDITS);
-    let mut nearest: Option<(usize, &str)> = None;
+    let mut least = most.saturating_add(1);
+    let mut nearest = None;
     for command in commands {
         let edits = osa_distance(alloc, word, command)?;
-        if edits <= most && nearest.is_none_or(|(least, _)| edits < least) {
-            nearest = Some((edits, command));
+        if edits < least {
+            least = edits;
+            nearest = Some(*command);
         }
     }
     match nearest {
-        Some((_, command)) => said.line(&[
-            Part::Words("did you mean "),
-            Part::Quote(command.as_bytes()),
-            Part::Words("?"),
-        ]),
+        Some(command) => said.tell("did you mean {}?", &[Quote(command.as_bytes())]),
         None => Ok(()),
     }
 }
 
-// The two files that words name, where this text refuses them for that.
-fn refused_files<'w>(
+// Reports that two words name files where this text refuses them for that, and answers whether that is so.
+fn put_files(
     alloc: Global,
-    words: &'w [String],
+    said: &mut Said,
+    words: &[String],
     command: &[u8],
     told: &[u8],
-) -> Result<Option<(&'w [u8], &'w [u8])>, AllocError> {
-    let mut files: Vec<&'w [u8]> = Vec::new(alloc);
+) -> Result<bool, AllocError> {
+    let mut files: Vec<&[u8]> = Vec::new(alloc);
     for word in operands(alloc, words)? {
         if command != WHATIF || !is_edit(word) {
             files.push(word)?;
         }
     }
-    Ok(match files.as_slice() {
-        [first, second, ..] if is_refusal_of(told, second) => Some((*first, *second)),
-        _ => None,
-    })
-}
-
-// Tells that two words name files.
-fn put_files<'w>(
-    said: &mut Said,
-    command: &[u8],
-    files: (&'w [u8], &'w [u8]),
-) -> Result<(), AllocError> {
-    let (first, second) = files;
-    said.line(&[
-        Part::Quote(first),
-        Part::Words(" and "),
-        Part::Quote(second),
-        Part::Words(" are two FILEs, but the input is read from one"),
-    ])?;
+    let [first, second, ..] = files.as_slice() else {
+        return Ok(false);
+    };
+    let is_refused = match told.strip_prefix(UNEXPECTED) {
+        Some(rest) => match rest.strip_prefix(*second) {
+            Some(behind) => behind.starts_with(b"' found"),
+            None => false,
+        },
+        None => told.starts_with(TWO_FILES),
+    };
+    if !is_refused {
+        return Ok(false);
+    }
+    said.tell(
+        "{} and {} are two FILEs, but the input is read from one",
+        &[Quote(first), Quote(second)],
+    )?;
     if command == WHATIF {
         said.words("an argument with neither = nor @ is a FILE, and each other one an edit")?;
     }
-    Ok(())
+    Ok(true)
 }
 
-// Tells by which option a command takes the program or the record, where this text refuses that of other commands.
+// Reports by which option a command takes the program or the record, where this text refuses that of other commands.
 fn put_option(said: &mut Said, command: &[u8], told: &[u8]) -> Result<(), AllocError> {
-    let (option, words): (&[u8], _) = if OF_PROGRAMS.iter().any(|name| *name == command) {
+    let (option, words): (&[u8], _) = if OF_PROGRAMS.contains(&command) {
         (b"--program'", pair_words(false))
-    } else if OF_RECORDS.iter().any(|name| *name == command) {
+    } else if OF_RECORDS.contains(&command) {
         (b"--record'", pair_words(true))
     } else {
         return Ok(());
     };
-    let is_refused = behind(told, UNEXPECTED).is_some_and(|word| word.starts_with(option));
-    if !is_refused {
+    let refused = told.strip_prefix(UNEXPECTED).unwrap_or(b"");
+    if !refused.starts_with(option) {
         return Ok(());
     }
     let (reads, takes) = words;
-    said.line(&[
-        Part::Bytes(command),
-        Part::Words(reads),
-        Part::Words("boc "),
-        Part::Bytes(command),
-        Part::Words(takes),
-    ])
+    let parts = [Bytes(command), Words(reads), Bytes(command), Words(takes)];
+    said.tell("{}{}boc {}", &parts)
 }
 
-// What the parser says of a word that it doesn't expect begins so, the word behind it.
-const UNEXPECTED: &[u8] = b"error: unexpected argument '";
-
-// The parser's text says that there is one FILE too many, this one.
-fn is_refusal_of(told: &[u8], second: &[u8]) -> bool {
-    let Some(rest) = behind(told, UNEXPECTED) else {
-        return behind(
-            told,
-            b"error: the input cannot be read from more than one FILE",
-        )
-        .is_some();
-    };
-    behind(rest, second).is_some_and(|rest| rest.starts_with(b"' found"))
-}
-
-// What stands behind the front of a text.
-fn behind<'a>(text: &'a [u8], front: &[u8]) -> Option<&'a [u8]> {
-    if text.starts_with(front) {
-        Some(text.split_at(front.len().min(text.len())).1)
-    } else {
-        None
-    }
-}
-
-// The words behind the command's that are no options and no values of them.
+// The words after the command's that are no options and no values of them.
 fn operands<'w>(alloc: Global, words: &'w [String]) -> Result<Vec<&'w [u8]>, AllocError> {
     let mut found: Vec<&'w [u8]> = Vec::new(alloc);
     let mut is_value = false;
@@ -218,7 +196,9 @@ fn operands<'w>(alloc: Global, words: &'w [String]) -> Result<Vec<&'w [u8]>, All
             is_value = false;
         } else if is_option {
             only_operands = word == b"--".as_slice();
-            is_value = WITH_VALUE.iter().any(|option| *option == word);
+            for option in WITH_VALUE.split(' ') {
+                is_value |= option.as_bytes() == word;
+            }
         } else {
             found.push(word)?;
         }
@@ -228,81 +208,75 @@ fn operands<'w>(alloc: Global, words: &'w [String]) -> Result<Vec<&'w [u8]>, All
 
 // A word looks like an edit.
 fn is_edit(word: &[u8]) -> bool {
-    word.iter().any(|byte| matches!(*byte, b'=' | b'@'))
+    word.contains(&b'=') || word.contains(&b'@')
 }
 
-// What stands in front of the first sign of this kind in a word, and behind it.
+// What is before the first sign of this kind in a word, and after it.
 fn around(word: &[u8], sign: u8) -> Option<(&[u8], &[u8])> {
-    let at = word.iter().position(|byte| *byte == sign)?;
-    let (front, rest) = word.split_at(at.min(word.len()));
-    let (_, back) = rest.split_at(rest.len().min(1));
-    Some((front, back))
+    for (at, byte) in word.iter().enumerate() {
+        if *byte == sign {
+            let (front, rest) = word.split_at(at);
+            return Some((front, rest.split_first()?.1));
+        }
+    }
+    None
 }
 
-// Tells why a word is no edit.
+// Reports why a word is no edit.
 fn put_no_edit(said: &mut Said, word: &[u8]) -> Result<(), AllocError> {
-    if word.contains(&b' ') {
-        return put_reason(said, word, "an edit has no spaces");
-    }
-    let Some((subject, change)) = around(word, b'=') else {
-        return put_no_offset(said, word);
+    let is_change = word.contains(&b'=');
+    let sign = if is_change { b'=' } else { b'@' };
+    let (subject, change) = around(word, sign).unwrap_or((word, b""));
+    let reason = if word.contains(&b' ') {
+        "an edit has no spaces"
+    } else if is_change && subject.is_empty() {
+        "a row or a def goes before the `=`"
+    } else if is_change && change.is_empty() {
+        "ticks or a part K/D go after the `=`"
+    } else if subject.is_empty() {
+        "a row goes before the `@`"
+    } else if change.is_empty() {
+        "a tick goes after the `@`"
+    } else if !is_change {
+        return put_no_number(said, first_unread(subject, change));
+    } else if let Some((over, under)) = around(change, b'/') {
+        return put_no_part(said, [over, under], subject);
+    } else {
+        return put_no_change(said, subject, change);
     };
-    if subject.is_empty() {
-        return put_reason(said, word, "a row or a def goes before the `=`");
-    }
-    if change.is_empty() {
-        return put_reason(said, word, "ticks or a part K/D go after the `=`");
-    }
-    if let Some((over, under)) = around(change, b'/') {
-        return put_no_part(said, word, [over, under], subject);
-    }
+    said.about(reason, &[])
+}
+
+// Reports why a word is no edit that has no part after the `=`.
+fn put_no_change<'a>(
+    said: &mut Said,
+    subject: &'a [u8],
+    change: &'a [u8],
+) -> Result<(), AllocError> {
     let is_row = are_digits(subject);
     if is_row && are_digits(change) {
-        return put_no_ticks(said, word, subject, change);
+        let is_large = !change.starts_with(b"0") && read_number(change).is_none();
+        if is_large && read_number(subject).is_some() {
+            return said.about("a row takes at most 1000000 ticks", &[]);
+        }
+        return put_no_number(said, first_unread(subject, change));
     }
     if let [b'+' | b'-', digits @ ..] = subject
         && are_digits(digits)
     {
-        return put_no_number(said, word, subject);
+        return put_no_number(said, subject);
     }
-    said.line(&[
-        Part::Quote(word),
-        Part::Words(": "),
-        Part::Quote(change),
-        Part::Words(if is_row {
-            " is neither ticks nor a part K/D; half of what the row costs is `"
-        } else {
-            " is not a part K/D; half of what the rows of a def cost is `"
-        }),
-        Part::Bytes(subject),
-        Part::Words("=1/2`"),
-    ])
-}
-
-// Tells why a word of a row and ticks is no edit.
-fn put_no_ticks(said: &mut Said, word: &[u8], row: &[u8], ticks: &[u8]) -> Result<(), AllocError> {
-    let is_large = !ticks.starts_with(b"0") && read_number(ticks).is_none();
-    if read_number(row).is_some() && is_large {
-        return put_reason(said, word, "a row takes at most 1000000 ticks");
+    if is_row {
+        said.about(
+            "{} is neither ticks nor a part K/D; half of what the row costs is `{}=1/2`",
+            &[Quote(change), Bytes(subject)],
+        )
+    } else {
+        said.about(
+            "{} is not a part K/D; half of what the rows of a def cost is `{}=1/2`",
+            &[Quote(change), Bytes(subject)],
+        )
     }
-    put_no_number(said, word, first_unread(row, ticks))
-}
-
-// Tells why a word with an `@` is no edit.
-fn put_no_offset(said: &mut Said, word: &[u8]) -> Result<(), AllocError> {
-    let (row, offset) = around(word, b'@').unwrap_or((word, b""));
-    if row.is_empty() {
-        return put_reason(said, word, "a row goes before the `@`");
-    }
-    if offset.is_empty() {
-        return put_reason(said, word, "a tick goes after the `@`");
-    }
-    put_no_number(said, word, first_unread(row, offset))
-}
-
-// A text has digits alone.
-fn are_digits(text: &[u8]) -> bool {
-    text.iter().all(|byte| byte.is_ascii_digit())
 }
 
 // The first of two texts where it is no number, and else the second.
@@ -314,34 +288,17 @@ fn first_unread<'a>(first: &'a [u8], second: &'a [u8]) -> &'a [u8] {
     }
 }
 
-// Tells why a word is no edit that has two texts round a `/`.
-fn put_no_part(
-    said: &mut Said,
-    word: &[u8],
-    part: [&[u8]; 2],
-    subject: &[u8],
-) -> Result<(), AllocError> {
+// Reports why a word is no edit that has two texts round a `/`.
+fn put_no_part(said: &mut Said, part: [&[u8]; 2], subject: &[u8]) -> Result<(), AllocError> {
     for number in &part {
         match read_number(number) {
             None if number.is_empty() => {
-                return put_reason(said, word, "a number goes on both sides of the `/`");
+                return said.about("a number goes on both sides of the `/`", &[]);
             }
-            None => return put_no_number(said, word, number),
+            None => return put_no_number(said, number),
             Some(1..=MOST_PART) => {}
-            Some(_) => {
-                return put_reason(said, word, "the numbers of a part K/D are 1 to 1000");
-            }
+            Some(_) => return said.about("the numbers of a part K/D are 1 to 1000", &[]),
         }
     }
-    put_no_number(said, word, subject)
-}
-
-// Tells which part of a word is no number, and why.
-fn put_no_number<'a>(said: &mut Said, word: &'a [u8], part: &'a [u8]) -> Result<(), AllocError> {
-    said.line(&[
-        Part::Quote(word),
-        Part::Words(": "),
-        Part::Quote(part),
-        Part::Words(reason_of(part)),
-    ])
+    put_no_number(said, subject)
 }

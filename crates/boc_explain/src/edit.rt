@@ -1,15 +1,34 @@
 // Edits that the rows of a record can't take.
 
-use crate::defs::{Asked, Defs, Naming};
-use crate::formed::put_reason;
-use crate::run::Run;
+ghost use Rattle.std.specs.Prelude.{IfOk, string_bytes};
+ghost use Rattle.boc_said.specs.Lines.{AreLines};
+
+use crate::formed::number;
+use crate::names::{Naming, names_by_file, names_by_program};
+use crate::run::last_child;
+use boc_names::{Names, text_at};
 use boc_plans::edit::{Change, Edit, EditFault, Part as Fraction};
+use boc_plans::sharing::Sharing;
 use boc_program::limits::MOST_TICKS;
+use boc_record::read_rows;
+use boc_runs::rows::Row;
 use boc_said::place::Text;
-use boc_said::said::{Part, Said};
+use boc_said::said::Part::{Many, Number, Words};
+use boc_said::said::Said;
+use boc_text::Bytes;
+use boc_whatif::WhatIf;
 use std::alloc::{AllocError, Global};
 
-/// What is told of the last of these edits, which the rows of a record can't take as those before it have made them. Its word is beside them.
+/// An edit that words ask for.
+#[derive(Drop, Debug)]
+pub enum Asked {
+    /// The edit of a row.
+    Row(Edit),
+    /// Each row of the def with this name costs this part of its ticks.
+    Def { name: String, part: Fraction },
+}
+
+/// Returns what is reported of the last of these edits, which the rows of a record can't take as those before it have made them. Its word is next to them.
 pub fn explain_edit(
     alloc: Global,
     text: Text<'_>,
@@ -17,228 +36,163 @@ pub fn explain_edit(
     word: &str,
     edits: &[Asked],
     fault: EditFault,
-) -> Result<String, AllocError> {
+) -> Result<String, AllocError>
+    ensures { IfOk result (λ told. AreLines (string_bytes told)) }
+{
     let mut said = Said::new(alloc);
-    let Some((last, before)) = edits.split_last() else {
-        return Ok(said.into_text());
-    };
-    if !text.whole {
-        return Ok(said.into_text());
-    }
-    let mut run = Run::before(alloc, text.bytes, u64::MAX)?;
-    let mut defs = Defs::none(alloc);
-    if edits.iter().any(Asked::is_of_def) {
-        match Defs::of(alloc, text.bytes, run.rows.len(), naming)? {
-            Some(known) => defs = known,
-            None => return Ok(said.into_text()),
+    said.set_subject(word.as_bytes())?;
+    if text.whole
+        && let Some(names) = names_for(alloc, text.bytes, naming, edits)?
+    {
+        let mut made = Vec::new(alloc);
+        for asked in edits {
+            put_edits(&mut made, &names, asked)?;
         }
+        put_unfit(alloc, &mut said, text.bytes, &made, fault)?;
     }
-    for asked in before {
-        match asked {
-            Asked::Row(edit) => apply(&mut run, *edit),
-            Asked::Def { name, part } => {
-                for row in defs.rows_of(alloc, name)? {
-                    apply_cost(&mut run, row, *part);
-                }
-            }
-        }
-    }
-    match last {
-        Asked::Row(edit) => put_edit(&mut said, word.as_bytes(), &run, *edit, fault)?,
-        Asked::Def { name, part } => {
-            let rows = defs.rows_of(alloc, name)?;
-            put_def(&mut said, word.as_bytes(), &run, &rows, *part)?;
-        }
-    }
-    Ok(said.into_text())
+    said.into_text(None)
 }
 
-// Tells of the first of these rows that can't cost a part of its ticks.
-fn put_def(
+// Reports why the rows of a record can't take the first of these edits that they can't.
+fn put_unfit(
+    alloc: Global,
     said: &mut Said,
-    word: &[u8],
-    run: &Run,
-    rows: &[u32],
-    part: Fraction,
+    text: &[u8],
+    edits: &[Edit],
+    fault: EditFault,
 ) -> Result<(), AllocError> {
-    for row in rows {
-        let ticks = run.row(*row).map_or(0, |row| row.ticks);
-        if part_of(ticks, part) > MOST_TICKS {
-            let change = Change::Cost(part);
-            return put_many(said, word, run, Edit { row: *row, change });
+    let mut source = Bytes::new(Vec::from_slice(alloc, text)?);
+    let Ok(rows) = read_rows(alloc, &mut source) else {
+        return Ok(());
+    };
+    let mut run = WhatIf::of(alloc, rows, Sharing::Exclusive)?;
+    let Err(unfit) = run.edit_all(edits) else {
+        return Ok(());
+    };
+    match edits.get(unfit.number.saturating_sub(1)) {
+        Some(edit) => put_refused(said, run.rows().as_slice(), *edit, fault),
+        None => Ok(()),
+    }
+}
+
+// The names of the rows of a record, if an edit asks for them; none of no rows.
+fn names_for(
+    alloc: Global,
+    text: &[u8],
+    naming: Naming<'_>,
+    edits: &[Asked],
+) -> Result<Option<Names>, AllocError> {
+    let mut asks = false;
+    for asked in edits {
+        asks |= matches!(asked, Asked::Def { .. });
+    }
+    if !asks {
+        return names_by_file(alloc, b"", None);
+    }
+    match naming {
+        Naming::Program(program) => names_by_program(alloc, text, program),
+        Naming::Names(file) => names_by_file(alloc, text, Some(file)),
+        Naming::Numbers => names_by_file(alloc, text, None),
+    }
+}
+
+// Appends the edits of rows that an edit is, the rows called so.
+fn put_edits(edits: &mut Vec<Edit>, names: &Names, asked: &Asked) -> Result<(), AllocError> {
+    match asked {
+        Asked::Row(edit) => edits.push(*edit)?,
+        Asked::Def { name, part } => {
+            let mut row: u32 = 0;
+            for def in &names.defs {
+                if text_at(&names.def_names, *def as usize) == name.as_bytes() {
+                    let change = Change::Cost(*part);
+                    edits.push(Edit { row, change })?;
+                }
+                row = row.saturating_add(1);
+            }
         }
     }
     Ok(())
 }
 
-// Has a row change that can.
-fn apply(run: &mut Run, edit: Edit) {
-    let Edit { row, change } = edit;
-    match change {
-        Change::Ticks(ticks) => set_ticks(run, row, ticks),
-        Change::Offset(offset) => set_offset(run, row, offset),
-        Change::Cost(part) => apply_cost(run, row, part),
-    }
-}
-
-fn set_ticks(run: &mut Run, row: u32, ticks: u32) {
-    if let Some(row) = run.rows.get_mut(row as usize) {
-        row.ticks = ticks;
-    }
-}
-
-fn set_offset(run: &mut Run, row: u32, offset: u32) {
-    if let Some(row) = run.rows.get_mut(row as usize) {
-        row.offset = offset;
-    }
-}
-
-// Has a row cost a part of its ticks, and spawn its children so much sooner or later.
-fn apply_cost(run: &mut Run, number: u32, part: Fraction) {
-    let mut last: u32 = 0;
-    let mut next = run.row(number).and_then(|row| row.first_child);
-    for _ in 0..run.rows.len() {
-        let Some(child) = next else { break };
-        next = None;
-        if let Some(row) = run.rows.get_mut(child as usize) {
-            row.offset = part_of(row.offset, part).max(last.saturating_add(1));
-            last = row.offset;
-            next = row.younger;
-        }
-    }
-    if let Some(row) = run.rows.get_mut(number as usize) {
-        row.ticks = part_of(row.ticks, part).max(last).max(1);
-    }
-}
-
-// A part of so many ticks, rounded up.
-fn part_of(ticks: u32, part: Fraction) -> u32 {
-    let over = u64::from(ticks).saturating_mul(u64::from(part.over()));
-    let under = u64::from(part.under()).max(1);
-    u32::try_from(over.div_ceil(under)).unwrap_or(u32::MAX)
-}
-
-fn put_edit(
+// Reports why rows can't take an edit.
+fn put_refused(
     said: &mut Said,
-    word: &[u8],
-    run: &Run,
+    rows: &[Row],
     edit: Edit,
     fault: EditFault,
 ) -> Result<(), AllocError> {
     match fault {
-        EditFault::NoRow => said.line(&[
-            Part::Quote(word),
-            Part::Words(": the record has rows 0 to "),
-            Part::Number((run.rows.len() as u64).saturating_sub(1)),
-        ]),
-        EditFault::NoParent => put_reason(said, word, "row 0 is main, which no row spawns"),
-        EditFault::TooManyTicks => put_many(said, word, run, edit),
-        EditFault::BelowSpawn => put_below(said, word, run, edit.row),
-        EditFault::NotBetween => put_between(said, word, run, edit.row),
+        EditFault::NoRow => {
+            let last = (rows.len() as u64).saturating_sub(1);
+            said.about("the record has rows 0 to ", &[Number(last)])
+        }
+        EditFault::NoParent => said.about("row 0 is main, which no row spawns", &[]),
+        EditFault::TooManyTicks => put_many(said, rows, edit),
+        EditFault::BelowSpawn => put_below(said, rows, edit.row),
+        EditFault::NotBetween => put_between(said, rows, edit.row),
     }
 }
 
-// Tells how many ticks a row would take.
-fn put_many(said: &mut Said, word: &[u8], run: &Run, edit: Edit) -> Result<(), AllocError> {
-    let (Change::Cost(_), Some(row)) = (edit.change, run.row(edit.row)) else {
-        return put_reason(said, word, "a row takes at most 1000000 ticks");
+// Reports how many ticks a row would take.
+fn put_many(said: &mut Said, rows: &[Row], edit: Edit) -> Result<(), AllocError> {
+    let (Change::Cost(_), Some(row)) = (edit.change, rows.get(edit.row as usize)) else {
+        return said.about("a row takes at most 1000000 ticks", &[]);
     };
-    said.line(&[
-        Part::Quote(word),
-        Part::Words(": row "),
-        Part::Number(u64::from(edit.row)),
-        Part::Words(" takes "),
-        Part::Many(u64::from(row.ticks), "tick"),
-        Part::Words("; the edit would exceed the limit of 1000000"),
-    ])
+    said.about(
+        "row {} takes {}; the edit would exceed the limit of 1000000",
+        &[number(edit.row), Many(u64::from(row.ticks), "tick")],
+    )
 }
 
-// Tells the least ticks that a row can take.
-fn put_below(said: &mut Said, word: &[u8], run: &Run, row: u32) -> Result<(), AllocError> {
-    let child = run.row(row).and_then(|row| row.last_child);
-    let Some(child) = child else {
-        return put_reason(said, word, "a row takes at least 1 tick");
+// Reports the least ticks that a row can take.
+fn put_below(said: &mut Said, rows: &[Row], row: u32) -> Result<(), AllocError> {
+    let Some((child, tick)) = last_child(rows, row) else {
+        return said.about("a row takes at least 1 tick", &[]);
     };
-    let tick = run.row(child).map_or(0, |child| child.offset);
-    said.line(&[
-        Part::Quote(word),
-        Part::Words(": row "),
-        Part::Number(u64::from(row)),
-        Part::Words(" spawns row "),
-        Part::Number(u64::from(child)),
-        Part::Words(" at its tick "),
-        Part::Number(u64::from(tick)),
-        Part::Words(", so it takes at least "),
-        Part::Many(u64::from(tick), "tick"),
-    ])
+    let least = Many(u64::from(tick), "tick");
+    said.about(
+        "row {} spawns row {} at its tick {}, so it takes at least ",
+        &[number(row), Number(child), number(tick), least],
+    )
 }
 
-// Tells between which ticks of its parent a row can be spawned.
-fn put_between(said: &mut Said, word: &[u8], run: &Run, number: u32) -> Result<(), AllocError> {
-    let Some(row) = run.row(number) else {
+// Reports between which ticks of its parent a row can be spawned.
+fn put_between(said: &mut Said, rows: &[Row], place: u32) -> Result<(), AllocError> {
+    let (before, others) = rows.split_at(rows.len().min(place as usize));
+    let Some((row, behind)) = others.split_first() else {
         return Ok(());
     };
-    let mut least: u32 = 1;
-    let mut most = run
-        .row(row.parent)
-        .map_or(MOST_TICKS, |parent| parent.ticks);
-    let mut elder = false;
-    let mut younger = false;
-    for (other, before) in run.rows.iter().enumerate().skip(1) {
-        if before.parent != row.parent || other == number as usize {
-            continue;
-        }
-        if other < number as usize {
-            least = before.offset.saturating_add(1);
-            elder = true;
-        } else {
-            most = before.offset.saturating_sub(1);
-            younger = true;
-            break;
+    let elder = last_child(before, row.parent);
+    let mut younger = None;
+    for other in behind.iter().rev() {
+        if other.parent == row.parent {
+            younger = Some(other.offset);
         }
     }
     let siblings = match (elder, younger) {
-        (true, true) => ", between its siblings,",
-        (true, false) => ", after its earlier sibling,",
-        (false, true) => ", before its later sibling,",
-        (false, false) => "",
+        (Some(_), Some(_)) => ", between its siblings,",
+        (Some(_), None) => ", after its earlier sibling,",
+        (None, Some(_)) => ", before its later sibling,",
+        (None, None) => "",
     };
-    put_window(said, word, number, row.parent, (least, most), siblings)
-}
-
-// Tells from which tick of its parent on a row can be spawned, and up to which.
-fn put_window<'a>(
-    said: &mut Said,
-    word: &'a [u8],
-    row: u32,
-    parent: u32,
-    ticks: (u32, u32),
-    siblings: &'a str,
-) -> Result<(), AllocError> {
-    let (least, most) = ticks;
-    let (at, to, last) = if least == most {
-        (
-            " can be spawned only at tick ",
-            Part::Words(""),
-            Part::Words(""),
-        )
-    } else {
-        (
-            " can be spawned at tick ",
-            Part::Words(" to "),
-            Part::Number(u64::from(most)),
-        )
+    let least = match elder {
+        Some((_, tick)) => tick.saturating_add(1),
+        None => 1,
     };
-    said.line(&[
-        Part::Quote(word),
-        Part::Words(": row "),
-        Part::Number(u64::from(row)),
-        Part::Words(siblings),
-        Part::Words(at),
-        Part::Number(u64::from(least)),
-        to,
-        last,
-        Part::Words(" of row "),
-        Part::Number(u64::from(parent)),
-    ])
+    let most = match (younger, rows.get(row.parent as usize)) {
+        (Some(offset), _) => offset.saturating_sub(1),
+        (None, Some(parent)) => parent.ticks,
+        (None, None) => MOST_TICKS,
+    };
+    let (place, siblings, parent) = (number(place), Words(siblings), number(row.parent));
+    if least == most {
+        return said.about(
+            "row {}{} can be spawned only at tick {} of row ",
+            &[place, siblings, number(least), parent],
+        );
+    }
+    said.about(
+        "row {}{} can be spawned at tick {} to {} of row ",
+        &[place, siblings, number(least), number(most), parent],
+    )
 }

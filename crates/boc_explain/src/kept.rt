@@ -11,7 +11,7 @@ use std::io::{self, Read};
 // The most lines of a record up to its first fault: the first line, the spawn, the start and the end of each row, the line `.`, and that of the fault.
 const MOST_LINES: usize = 3 * MOST_ROWS + 3;
 
-// How many bytes are kept at most: a record up to its first fault, each of its lines with a line feed. So all that is told of a fault in a record can be
+// How many bytes are kept at most: a record up to its first fault, each of its lines with a line feed. So all that is reported of a fault in a record can be
 // found in what is kept, wherever it is.
 const MOST_KEPT: usize = MOST_LINES * (MOST_LINE + 1);
 
@@ -50,7 +50,7 @@ impl Kept {
         self.is_whole
     }
 
-    /// Puts bytes behind the others. From where some are left out, none are kept any more.
+    /// Puts bytes after the others. From where some are left out, none are kept any more.
     pub fn keep(&mut self, bytes: &[u8]) {
         let room = MOST_KEPT.saturating_sub(self.bytes.len());
         let (front, _) = bytes.split_at(room.min(bytes.len()));

@@ -5,9 +5,7 @@
 
 mod broken;
 mod command_words;
-mod defs;
 mod edit;
-mod followed;
 mod formed;
 mod kept;
 mod limits;
@@ -17,9 +15,9 @@ mod record;
 mod run;
 mod stray;
 
-use boc_program::limits::{MOST_COWNS, MOST_HELD, MOST_PART, MOST_ROWS};
+use boc_program::limits::{MOST_COWNS, MOST_HELD, MOST_PART, MOST_ROWS, MOST_TICKS};
 
-// So many are named in the lines.
+// These numbers are named in the lines.
 const _: () = prove!(MOST_COWNS == 256);
 
 const _: () = prove!(MOST_HELD == 8);
@@ -28,11 +26,12 @@ const _: () = prove!(MOST_PART == 1_000);
 
 const _: () = prove!(MOST_ROWS == 65_535);
 
+const _: () = prove!(MOST_TICKS == 1_000_000);
+
 pub use command_words::{explain_edit_word, explain_words};
-pub use defs::{Asked, Naming};
-pub use edit::explain_edit;
+pub use edit::{Asked, explain_edit};
 pub use kept::{Input, Kept};
 pub use missing::{explain_cown, explain_def};
-pub use names::explain_names;
+pub use names::{Naming, explain_names};
 pub use record::explain_record;
 pub use stray::explain_stray;

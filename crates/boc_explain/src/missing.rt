@@ -1,236 +1,207 @@
 // Cowns and defs that aren't there.
 
-use crate::defs::{Naming, names_by_file};
-use crate::formed::put_reason;
-use crate::names::record_cowns;
-use crate::run::Run;
+ghost use Rattle.std.specs.Prelude.{IfOk, string_bytes};
+ghost use Rattle.boc_said.specs.Lines.{AreLines};
+
+use crate::names::{Naming, names_by_file, record_cowns};
 use boc_names::Names;
-use boc_said::declared::{Thing, top_names};
+use boc_reader::read_listed;
 use boc_said::place::Text;
-use boc_said::said::{MOST_QUOTE, Part, Said};
-use boc_said::tokens::words_of;
+use boc_said::said::Part::{Bytes, Number, Quote, Words};
+use boc_said::said::{MOST_QUOTE, Said};
 use boc_text::read_number;
 use std::alloc::{AllocError, Global};
 
 // What is named.
-#[derive(Clone, Copy)]
+#[derive(Clone, Copy, PartialEq, Eq)]
 enum Kind {
     Cown,
     Def,
 }
 
-/// What is told of a cown that a record doesn't have, called so.
+// The cowns or the defs that a text names, and the words round them: that there are none, those before them, and those after them.
+#[derive(Drop)]
+struct Known {
+    names: Vec<Vec<u8>>,
+    words: [&'static str; 3],
+}
+
+/// Returns what is reported of a cown that a record doesn't have, called so.
 pub fn explain_cown(
     alloc: Global,
     text: Text<'_>,
     naming: Naming<'_>,
     name: &str,
-) -> Result<String, AllocError> {
+) -> Result<String, AllocError>
+    ensures { IfOk result (λ told. AreLines (string_bytes told)) }
+{
     let mut said = Said::new(alloc);
     let name = name.as_bytes();
     let is_number = read_number(name).is_some();
-    match naming {
-        Naming::Program(program) if !is_number => {
-            put_of_program(alloc, &mut said, program, Kind::Cown, name)?;
+    let naming = if is_number { Naming::Numbers } else { naming };
+    match (
+        known_in(alloc, text, naming, Kind::Cown)?,
+        record_cowns(text.bytes),
+    ) {
+        (Some(known), _) => put_missing(alloc, &mut said, "no cown is called ", name, known)?,
+        (None, Some(0)) => {
+            said.set_subject(name)?;
+            said.about("the record has no cowns", &[])?;
         }
-        Naming::Names(file) if !is_number => {
-            put_of_file(alloc, &mut said, text, file, Kind::Cown, name)?;
-        }
-        _ => put_of_record(&mut said, text, name)?,
+        (None, Some(count)) => said.tell(
+            "no cown is called {}; the record has cowns 0 to ",
+            &[Quote(name), Number(u64::from(count).saturating_sub(1))],
+        )?,
+        (None, None) => {}
     }
-    Ok(said.into_text())
+    said.into_text(None)
 }
 
-/// What is told of a def that no row of a record is of, called so.
+/// Returns what is reported of a def that no row of a record is of, called so.
 pub fn explain_def(
     alloc: Global,
     text: Text<'_>,
     naming: Naming<'_>,
     name: &str,
-) -> Result<String, AllocError> {
+) -> Result<String, AllocError>
+    ensures { IfOk result (λ told. AreLines (string_bytes told)) }
+{
     let mut said = Said::new(alloc);
     let name = name.as_bytes();
-    match naming {
-        Naming::Program(program) => put_of_program(alloc, &mut said, program, Kind::Def, name)?,
-        Naming::Names(file) => put_of_file(alloc, &mut said, text, file, Kind::Def, name)?,
-        Naming::Numbers => said.line(&[
-            Part::Words("no row belongs to a def "),
-            Part::Quote(name),
-            Part::Words("; without either file each row is a def of its own, such as `row 0`"),
-        ])?,
+    if let Naming::Numbers = naming {
+        said.tell(
+            "no row belongs to a def {}; without either file each row is a def of its own, such as `row 0`",
+            &[Quote(name)],
+        )?;
+    } else if let Some(known) = known_in(alloc, text, naming, Kind::Def)? {
+        put_missing(alloc, &mut said, "no row belongs to a def ", name, known)?;
     }
-    Ok(said.into_text())
+    said.into_text(None)
 }
 
-// Tells which cowns a record has.
-fn put_of_record(said: &mut Said, text: Text<'_>, name: &[u8]) -> Result<(), AllocError> {
-    match record_cowns(text.bytes) {
-        None => Ok(()),
-        Some(0) => put_reason(said, name, "the record has no cowns"),
-        Some(count) => said.line(&[
-            Part::Words("no cown is called "),
-            Part::Quote(name),
-            Part::Words("; the record has cowns 0 to "),
-            Part::Number(u64::from(count).saturating_sub(1)),
-        ]),
-    }
-}
-
-// Tells which cowns or which defs a program has.
-fn put_of_program(
+// The cowns or the defs that a program or a file of names names, if that is known.
+fn known_in(
     alloc: Global,
-    said: &mut Said,
-    program: &[u8],
-    kind: Kind,
-    name: &[u8],
-) -> Result<(), AllocError> {
-    let words = words_of(alloc, program)?;
-    let mut listed = Listed::new(alloc, name);
-    for declared in top_names(alloc, &words)? {
-        match (kind, declared.thing) {
-            (Kind::Def, Thing::Def { .. }) => listed.add(declared.name.bytes, b"")?,
-            (Kind::Def, _) | (Kind::Cown, Thing::Def { .. }) => {}
-            (Kind::Cown, Thing::Array) => listed.add(declared.name.bytes, b"[*]")?,
-            (Kind::Cown, _) => listed.add(declared.name.bytes, b"")?,
-        }
-    }
-    let (none, some, behind) = match kind {
-        Kind::Def => (
-            "; the program has no def except main",
-            "; the program's defs are ",
-            ", and main",
-        ),
-        Kind::Cown => (
-            "; the program has no cowns",
-            "; the program's cowns are ",
-            "",
-        ),
-    };
-    listed.put(said, kind, name, [none, some, behind])
-}
-
-// Tells which cowns or which defs a file names.
-fn put_of_file(
-    alloc: Global,
-    said: &mut Said,
     text: Text<'_>,
+    naming: Naming<'_>,
+    kind: Kind,
+) -> Result<Option<Known>, AllocError> {
+    match naming {
+        Naming::Program(program) if kind == Kind::Def => defs_of(alloc, program),
+        Naming::Program(program) => cowns_of(alloc, program),
+        Naming::Names(file) if text.whole => named_in(alloc, text.bytes, file, kind),
+        _ => Ok(None),
+    }
+}
+
+fn defs_of(alloc: Global, program: &[u8]) -> Result<Option<Known>, AllocError> {
+    let Ok((_, listings)) = read_listed(alloc, program) else {
+        return Ok(None);
+    };
+    let mut names = Vec::new(alloc);
+    for listing in &listings {
+        names.push(Vec::from_slice(alloc, listing.name.as_str().as_bytes())?)?;
+    }
+    let none = "; the program has no def except main";
+    let words = [none, "; the program's defs are ", ", and main"];
+    Ok(Some(Known { names, words }))
+}
+
+fn cowns_of(alloc: Global, program: &[u8]) -> Result<Option<Known>, AllocError> {
+    let Ok((program, _)) = read_listed(alloc, program) else {
+        return Ok(None);
+    };
+    let mut names = Vec::new(alloc);
+    for cown in program.cowns.as_slice() {
+        let mut name = Vec::from_slice(alloc, cown.name.as_str().as_bytes())?;
+        if cown.size.is_some() {
+            name.extend_from_slice(b"[*]")?;
+        }
+        names.push(name)?;
+    }
+    let words = [
+        "; the program has no cowns",
+        "; the program's cowns are ",
+        "",
+    ];
+    Ok(Some(Known { names, words }))
+}
+
+fn named_in(
+    alloc: Global,
+    text: &[u8],
     file: &[u8],
     kind: Kind,
-    name: &[u8],
-) -> Result<(), AllocError> {
-    let Some(names) = names_in(alloc, text, file)? else {
-        return match kind {
-            Kind::Def => Ok(()),
-            Kind::Cown => put_of_record(said, text, name),
-        };
+) -> Result<Option<Known>, AllocError> {
+    let Some(called) = names_by_file(alloc, text, Some(file))? else {
+        return Ok(None);
     };
-    let (none, some) = match kind {
-        Kind::Def => ("; the file names no row", "; the file's defs are "),
-        Kind::Cown => ("; the file names no cown", "; the file's cowns are "),
+    let Names {
+        def_names,
+        family_names,
+        ..
+    } = called;
+    let (all, none, some) = match kind {
+        Kind::Def => (
+            def_names,
+            "; the file names no row",
+            "; the file's defs are ",
+        ),
+        Kind::Cown => (
+            family_names,
+            "; the file names no cown",
+            "; the file's cowns are ",
+        ),
     };
-    let mut listed = Listed::new(alloc, name);
-    for called in called_in(&names, kind) {
+    let mut names = Vec::new(alloc);
+    for name in all {
         // What a file names has no blank; what it doesn't is called as `row 2`.
-        if !called.contains(&b' ') {
-            listed.add(called, b"")?;
+        if !name.contains(&b' ') {
+            names.push(name)?;
         }
     }
-    listed.put(said, kind, name, [none, some, ""])
+    let words = [none, some, ""];
+    Ok(Some(Known { names, words }))
 }
 
-// What the defs of rows or the families of cowns are called.
-fn called_in(names: &Names, kind: Kind) -> &[Vec<u8>] {
-    match kind {
-        Kind::Def => names.def_names.as_slice(),
-        Kind::Cown => names.family_names.as_slice(),
+// Reports that none is called so, and which there are.
+fn put_missing(
+    alloc: Global,
+    said: &mut Said,
+    begin: &str,
+    name: &[u8],
+    known: Known,
+) -> Result<(), AllocError> {
+    let list = listed(alloc, &known.names, name)?;
+    let [none, some, behind] = known.words;
+    if known.names.is_empty() {
+        return said.tell(begin, &[Quote(name), Words(none)]);
     }
+    said.tell(
+        begin,
+        &[Quote(name), Words(some), Bytes(&list), Words(behind)],
+    )
 }
 
-// What a file calls the rows and the cowns of a record, if all of the record is known.
-fn names_in(alloc: Global, text: Text<'_>, file: &[u8]) -> Result<Option<Names>, AllocError> {
-    if !text.whole {
-        return Ok(None);
-    }
-    let run = Run::before(alloc, text.bytes, u64::MAX)?;
-    names_by_file(alloc, text.bytes, run.rows.len(), Some(file))
-}
-
-// How many names are told at most.
+// How many names are reported at most.
 const MOST_NAMES: usize = 6;
 
-// How many bytes they have beside the name that is missing, at most: as many as a line has beside the words round them.
+// How many bytes they have next to the name that is missing, at most: as many as a line has next to the words round them.
 const MOST_LISTED: usize = 90;
 
-// Names in a line.
-#[derive(Drop)]
-struct Listed {
-    text: Vec<u8>,
-    // How many there are.
-    count: usize,
-    // How many more bytes they may have.
-    room: usize,
-    // There are some that aren't told.
-    cut: bool,
-}
-
-impl Listed {
-    // No names, in a line that tells that this one is missing.
-    fn new(alloc: Global, missing: &[u8]) -> Listed {
-        Listed {
-            text: Vec::new(alloc),
-            count: 0,
-            room: MOST_LISTED.saturating_sub(missing.len().min(MOST_QUOTE)),
-            cut: false,
+// The first of these names, as many as fit next to one that is missing, and two dots instead of the others.
+fn listed(alloc: Global, names: &[Vec<u8>], missing: &[u8]) -> Result<Vec<u8>, AllocError> {
+    let mut text = Vec::new(alloc);
+    let room = MOST_LISTED.saturating_sub(missing.len().min(MOST_QUOTE));
+    for (count, name) in names.iter().enumerate() {
+        if count > 0 {
+            text.extend_from_slice(b", ")?;
         }
-    }
-
-    // One more name, and what stands behind it; or two dots, where it is one too many or doesn't fit.
-    fn add(&mut self, name: &[u8], behind: &[u8]) -> Result<(), AllocError> {
-        let between: &[u8] = if self.count == 0 { b"" } else { b", " };
-        let size = between
-            .len()
-            .saturating_add(name.len())
-            .saturating_add(behind.len());
-        if self.cut {
-            return Ok(());
+        if count == MOST_NAMES || text.len().saturating_add(name.len()) > room {
+            text.extend_from_slice(b"..")?;
+            break;
         }
-        self.text.extend_from_slice(between)?;
-        if self.count == MOST_NAMES || size > self.room {
-            self.cut = true;
-            self.text.extend_from_slice(b"..")?;
-        } else {
-            self.text.extend_from_slice(name)?;
-            self.text.extend_from_slice(behind)?;
-            self.room = self.room.saturating_sub(size);
-        }
-        self.count = self.count.saturating_add(1);
-        Ok(())
+        text.extend_from_slice(name)?;
     }
-
-    // Tells that none of this kind is called so, and which there are: by the first of these words that there are none, else by those that stand before
-    // them and those behind them.
-    fn put<'x>(
-        &'x self,
-        said: &mut Said,
-        kind: Kind,
-        name: &'x [u8],
-        words: [&'static str; 3],
-    ) -> Result<(), AllocError> {
-        let [none, some, behind] = words;
-        let (before, behind) = if self.count == 0 {
-            (none, "")
-        } else {
-            (some, behind)
-        };
-        said.line(&[
-            Part::Words(match kind {
-                Kind::Def => "no row belongs to a def ",
-                Kind::Cown => "no cown is called ",
-            }),
-            Part::Quote(name),
-            Part::Words(before),
-            Part::Bytes(&self.text),
-            Part::Words(behind),
-        ])
-    }
+    Ok(text)
 }

@@ -1,115 +1,133 @@
-// Faults of files of names.
+// What the rows and the cowns of a record are called, and faults of files that name them.
 
-use crate::formed::{column_of, put_common, put_reason, reason_of};
-use crate::run::{Run, line_at};
-use boc_names::{MOST_NAMES, NamesFault, NamesFaultKind};
-use boc_reader::read_program;
+ghost use Rattle.std.specs.Prelude.{IfOk, string_bytes};
+ghost use Rattle.std.specs.Option.{option_copied};
+ghost use Rattle.boc_said.specs.Lines.{AreLinesOf};
+
+use crate::formed::{column_of, is_feed, is_space, put_common, put_no_number};
+use crate::run::{line_at, run_before};
+use boc_follow::follow_record;
+use boc_names::{
+    MOST_NAMES, Names, NamesFault, NamesFaultKind, names_of_run, numbers_as_names, read_names,
+};
+use boc_program::limits::{MOST_COWNS, MOST_ROWS};
+use boc_program::text::Name;
+use boc_progress::Silent;
+use boc_reader::{DefListing, read_listed, read_program};
+use boc_record::read_record;
+use boc_registers::compiled::CompiledProgram;
 use boc_said::place::{Text, is_first_word, looks_like_record};
-use boc_said::said::{Part, Said};
-use boc_text::{MOST_LINE, read_number};
+use boc_said::said::Part::{Number, Quote, Words};
+use boc_said::said::Said;
+use boc_text::{Bytes, MOST_LINE, read_number};
 use std::alloc::{AllocError, Global};
 
-// So many are named in the lines.
+// These numbers are named in the lines.
 const _: () = prove!(MOST_NAMES == 8 * 1024 * 1024);
 
-/// What is told of a file of names behind the line of its fault. It names the rows and the cowns of the run that this input tells of.
+/// By what the rows of a record are called.
+#[derive(Clone, Copy, Debug)]
+pub enum Naming<'a> {
+    /// By their numbers.
+    Numbers,
+    /// As in the text of this program, of which the record is a run.
+    Program(&'a [u8]),
+    /// As in the text of this file of names.
+    Names(&'a [u8]),
+}
+
+/// Returns what is reported of a file of names after the line of its fault. It names the rows and the cowns of the run that this input reports of.
 pub fn explain_names(
     alloc: Global,
     text: Text<'_>,
     input: Text<'_>,
     fault: NamesFault,
-) -> Result<String, AllocError> {
-    let mut said = Said::of(alloc, text, fault.line)?;
-    let line = match line_at(text.bytes, fault.line) {
-        Some((line, is_ended)) if is_ended || text.whole => line,
-        _ => return Ok(said.into_text()),
-    };
-    if let NamesFaultKind::NoRow | NamesFaultKind::NoCown | NamesFaultKind::Twice = fault.kind {
-        said.place.1 = column_of(line, 1);
+) -> Result<String, AllocError>
+    ensures { IfOk result (λ told. AreLinesOf (option_copied text.entry.name) (string_bytes told)) }
+{
+    let mut said = Said::new(alloc);
+    said.set_place(fault.line, 1);
+    if let Some(line) = line_at(text, fault.line) {
+        if let NamesFaultKind::NoRow | NamesFaultKind::NoCown | NamesFaultKind::Twice = fault.kind {
+            said.set_column(column_of(line, 1));
+        }
+        said.set_subject(line)?;
+        put_fault(alloc, &mut said, text, input, line, fault)?;
     }
-    match fault.kind {
-        NamesFaultKind::TooLong | NamesFaultKind::Form if looks_like_record(text.bytes) => {
-            put_other_text(&mut said, "a record")?;
-        }
-        NamesFaultKind::TooLong | NamesFaultKind::Form if is_of_program(text.bytes) => {
-            put_other_text(&mut said, "a program")?;
-        }
-        NamesFaultKind::Cut => {
-            put_reason(&mut said, line, "the last line has no line feed")?;
-        }
-        NamesFaultKind::TooLong if line.len() > MOST_LINE => {
-            put_reason(&mut said, line, "a line has at most 80 bytes")?;
-        }
-        NamesFaultKind::TooLong => put_reason(&mut said, line, "a names file has at most 8 MiB")?,
-        NamesFaultKind::Form => put_form(&mut said, line)?,
-        NamesFaultKind::NoRow => put_no_row(alloc, &mut said, line, input)?,
-        NamesFaultKind::NoCown => put_no_cown(alloc, &mut said, line, input)?,
-        NamesFaultKind::Twice => put_twice(&mut said, text.bytes, line, fault.line)?,
-        NamesFaultKind::Memory => {}
-    }
-    Ok(said.into_text())
+    said.into_text(text.name)
 }
 
-// Tells that another text stands where names are wanted.
+fn put_fault(
+    alloc: Global,
+    said: &mut Said,
+    text: Text<'_>,
+    input: Text<'_>,
+    line: &[u8],
+    fault: NamesFault,
+) -> Result<(), AllocError> {
+    let is_formless = matches!(fault.kind, NamesFaultKind::TooLong | NamesFaultKind::Form);
+    if is_formless && looks_like_record(text.bytes) {
+        return put_other_text(said, "record");
+    }
+    if is_formless && is_of_program(text.bytes) {
+        return put_other_text(said, "program");
+    }
+    match fault.kind {
+        NamesFaultKind::Cut => said.about("the last line has no line feed", &[]),
+        NamesFaultKind::TooLong if line.len() > MOST_LINE => {
+            said.about("a line has at most 80 bytes", &[])
+        }
+        NamesFaultKind::TooLong => said.about("a names file has at most 8 MiB", &[]),
+        NamesFaultKind::Form => put_form(said, line),
+        NamesFaultKind::NoRow => put_no_row(alloc, said, input),
+        NamesFaultKind::NoCown => put_no_cown(alloc, said, input),
+        NamesFaultKind::Twice => put_twice(said, text.bytes, line, fault.line),
+        NamesFaultKind::Memory => Ok(()),
+    }
+}
+
+// Reports that another text is where names are wanted.
 fn put_other_text(said: &mut Said, found: &str) -> Result<(), AllocError> {
-    said.line(&[
-        Part::Words("this looks like "),
-        Part::Words(found),
-        Part::Words("; --names takes lines `@ COWN NAME` and `= ROW NAME [ARG ..]`"),
-    ])
+    said.tell(
+        "this looks like a {}; --names takes lines `@ COWN NAME` and `= ROW NAME [ARG ..]`",
+        &[Words(found)],
+    )
 }
 
 // The first line that says something, and is no comment, is one of a program.
 fn is_of_program(text: &[u8]) -> bool {
-    let first = text
-        .split(|byte| *byte == b'\n')
-        .find(|line| !matches!(*line, [] | [b'#', ..]));
-    match first {
-        Some(line) => line
-            .split(|byte| *byte == b' ')
-            .next()
-            .is_some_and(is_first_word),
-        None => false,
+    for line in text.split(is_feed) {
+        if !line.is_empty() && !line.starts_with(b"#") {
+            return line.split(is_space).next().is_some_and(is_first_word);
+        }
     }
+    false
 }
 
-// What is wrong with a line that has none of the forms.
+// Reports what is wrong with a line that has none of the forms.
 fn put_form(said: &mut Said, line: &[u8]) -> Result<(), AllocError> {
     if put_common(said, line, "names and arguments are")? {
         return Ok(());
     }
-    match line {
-        [sign @ (b'=' | b'@'), b' ', fields @ ..] => put_fields(said, line, *sign, fields),
-        [b'=' | b'@'] => put_reason(said, line, "no number and no name after the sign"),
-        [b'=' | b'@', ..] => put_reason(said, line, "no space after the sign"),
-        _ => put_reason(
-            said,
-            line,
-            "a line is `@ COWN NAME`, `= ROW NAME [ARG ..]`, empty, or a `#` comment",
-        ),
-    }
+    let reason = match line {
+        [sign @ (b'=' | b'@'), b' ', fields @ ..] => return put_fields(said, line, *sign, fields),
+        [b'=' | b'@'] => "no number and no name after the sign",
+        [b'=' | b'@', ..] => "no space after the sign",
+        _ => "a line is `@ COWN NAME`, `= ROW NAME [ARG ..]`, empty, or a `#` comment",
+    };
+    said.about(reason, &[])
 }
 
-// What is wrong with the fields of a line.
-fn put_fields<'a>(
-    said: &mut Said,
-    line: &'a [u8],
-    sign: u8,
-    fields: &'a [u8],
-) -> Result<(), AllocError> {
+// Reports what is wrong with the fields of a line.
+fn put_fields(said: &mut Said, line: &[u8], sign: u8, fields: &[u8]) -> Result<(), AllocError> {
     let mut count: u64 = 0;
-    for field in fields.split(|byte| *byte == b' ') {
+    for field in fields.split(is_space) {
         if field.is_empty() {
-            return put_reason(said, line, "two spaces; words are separated by one");
+            return said.about("two spaces; words are separated by one", &[]);
         }
         if count == 0 && read_number(field).is_none() {
-            said.place.1 = column_of(line, 1);
-            return said.line(&[
-                Part::Quote(line),
-                Part::Words(": "),
-                Part::Quote(field),
-                Part::Words(reason_of(field)),
-            ]);
+            said.set_column(column_of(line, 1));
+            return put_no_number(said, field);
         }
         count = count.saturating_add(1);
     }
@@ -118,72 +136,47 @@ fn put_fields<'a>(
         _ if count < 2 => "no name; the form is `@ COWN NAME`",
         _ => "words after the name; the form is `@ COWN NAME`",
     };
-    put_reason(said, line, reason)
+    said.about(reason, &[])
 }
 
-// The sign and the number of a line that has one of the forms.
-fn thing_of(line: &[u8]) -> Option<(u8, u32)> {
-    match line {
-        [sign @ (b'=' | b'@'), b' ', fields @ ..] => {
-            let number = read_number(fields.split(|byte| *byte == b' ').next()?)?;
-            Some((*sign, number))
-        }
-        _ => None,
-    }
-}
-
-// Tells which rows there are. How many a program has is known only as it runs.
-fn put_no_row(
-    alloc: Global,
-    said: &mut Said,
-    line: &[u8],
-    input: Text<'_>,
-) -> Result<(), AllocError> {
+// Reports which rows there are. How many a program has is known only as it runs.
+fn put_no_row(alloc: Global, said: &mut Said, input: Text<'_>) -> Result<(), AllocError> {
     if !looks_like_record(input.bytes) || !input.whole {
-        return put_reason(said, line, "the run has no row with this number");
+        return said.about("the run has no row with this number", &[]);
     }
-    let run = Run::before(alloc, input.bytes, u64::MAX)?;
-    said.line(&[
-        Part::Quote(line),
-        Part::Words(": the record has rows 0 to "),
-        Part::Number((run.rows.len() as u64).saturating_sub(1)),
-    ])
+    let count = run_before(alloc, input.bytes, u64::MAX)?.count() as u64;
+    said.about(
+        "the record has rows 0 to ",
+        &[Number(count.saturating_sub(1))],
+    )
 }
 
-// Tells which cowns there are.
-fn put_no_cown(
-    alloc: Global,
-    said: &mut Said,
-    line: &[u8],
-    input: Text<'_>,
-) -> Result<(), AllocError> {
-    let count = match record_cowns(input.bytes) {
-        Some(count) => u64::from(count),
-        None => match program_cowns(alloc, input.bytes)? {
-            Some(count) => count,
-            None => return Ok(()),
-        },
+// Reports which cowns there are.
+fn put_no_cown(alloc: Global, said: &mut Said, input: Text<'_>) -> Result<(), AllocError> {
+    let known = match record_cowns(input.bytes) {
+        Some(count) => Some(u64::from(count)),
+        None => program_cowns(alloc, input.bytes)?,
     };
-    if count == 0 {
-        return put_reason(said, line, "the run has no cowns");
+    match known {
+        None => Ok(()),
+        Some(0) => said.about("the run has no cowns", &[]),
+        Some(count) => said.about(
+            "the run has cowns 0 to ",
+            &[Number(count.saturating_sub(1))],
+        ),
     }
-    said.line(&[
-        Part::Quote(line),
-        Part::Words(": the run has cowns 0 to "),
-        Part::Number(count.saturating_sub(1)),
-    ])
 }
 
-/// How many cowns the first line of a record tells.
+/// Returns how many cowns the first line of a record reports.
 pub(crate) fn record_cowns(text: &[u8]) -> Option<u32> {
     if !looks_like_record(text) {
         return None;
     }
-    let (header, _) = line_at(text, 1)?;
-    read_number(header.rsplit(|byte| *byte == b' ').next()?)
+    let header = text.split(is_feed).next()?;
+    read_number(header.rsplit(is_space).next()?)
 }
 
-/// How many cowns a program has, the members of arrays counted.
+/// Returns how many cowns a program has, the members of arrays counted.
 pub(crate) fn program_cowns(alloc: Global, text: &[u8]) -> Result<Option<u64>, AllocError> {
     let Ok(program) = read_program(alloc, text) else {
         return Ok(None);
@@ -195,25 +188,82 @@ pub(crate) fn program_cowns(alloc: Global, text: &[u8]) -> Result<Option<u64>, A
     Ok(Some(count))
 }
 
-// Tells which line before this one names the same.
-fn put_twice<'a>(
-    said: &mut Said,
-    text: &'a [u8],
-    line: &'a [u8],
-    number: u64,
-) -> Result<(), AllocError> {
+// The sign and the number of a line that has one of the forms.
+fn thing_of(line: &[u8]) -> Option<(u8, u32)> {
+    match line {
+        [sign @ (b'=' | b'@'), b' ', fields @ ..] => {
+            let number = read_number(fields.split(is_space).next()?)?;
+            Some((*sign, number))
+        }
+        _ => None,
+    }
+}
+
+// Reports which line before this one names the same.
+fn put_twice(said: &mut Said, text: &[u8], line: &[u8], number: u64) -> Result<(), AllocError> {
+    let thing = thing_of(line);
     let mut counted: u64 = 0;
-    for other in text.split(|byte| *byte == b'\n') {
+    for other in text.split(is_feed) {
         counted = counted.saturating_add(1);
-        if counted < number && thing_of(other) == thing_of(line) {
-            return said.line(&[
-                Part::Quote(line),
-                Part::Words(": line "),
-                Part::Number(counted),
-                Part::Words(" already names it: "),
-                Part::Quote(other),
-            ]);
+        if counted < number && thing_of(other) == thing {
+            let parts = [Number(counted), Quote(other)];
+            return said.about("line {} already names it: ", &parts);
         }
     }
     Ok(())
+}
+
+/// Returns the names of these defs.
+pub(crate) fn called(alloc: Global, listings: Vec<DefListing>) -> Result<Vec<Name>, AllocError> {
+    let mut names = Vec::new(alloc);
+    for listing in listings {
+        let DefListing { name, .. } = listing;
+        names.push(name)?;
+    }
+    Ok(names)
+}
+
+/// Returns the names of the rows of a record as its program has them. None where they can't be reported.
+pub(crate) fn names_by_program(
+    alloc: Global,
+    text: &[u8],
+    program: &[u8],
+) -> Result<Option<Names>, AllocError> {
+    let Ok((program, listings)) = read_listed(alloc, program) else {
+        return Ok(None);
+    };
+    let Ok(record) = read_record(alloc, &mut Bytes::new(Vec::from_slice(alloc, text)?)) else {
+        return Ok(None);
+    };
+    let compiled = CompiledProgram::new(alloc, &program)?;
+    let Ok(follower) = follow_record(alloc, &compiled, &record, &mut Silent) else {
+        return Ok(None);
+    };
+    let rows = follower.instances(alloc)?;
+    let names = names_of_run(alloc, follower.program(), &called(alloc, listings)?, &rows)?;
+    Ok(Some(names))
+}
+
+/// Returns the names of the rows and the cowns of a record as a file has them, if there is one, and else their numbers. None where they can't be reported.
+pub(crate) fn names_by_file(
+    alloc: Global,
+    text: &[u8],
+    file: Option<&[u8]>,
+) -> Result<Option<Names>, AllocError> {
+    let run = run_before(alloc, text, u64::MAX)?;
+    if run.count() > MOST_ROWS {
+        return Ok(None);
+    }
+    let numbers = numbers_as_names(alloc, run.count() as u32, run.cowns())?;
+    let Some(file) = file else {
+        return Ok(Some(numbers));
+    };
+    let fits = numbers.defs.len() == numbers.rows.len()
+        && numbers.rows.len() <= MOST_ROWS
+        && numbers.families.len() == numbers.cowns.len()
+        && numbers.cowns.len() <= MOST_COWNS;
+    if !fits {
+        return Ok(None);
+    }
+    Ok(read_names(alloc, file, numbers).ok())
 }

@@ -1,40 +1,46 @@
 // Faults of records.
 
+ghost use Rattle.std.specs.Prelude.{IfOk, string_bytes};
+ghost use Rattle.std.specs.Option.{option_copied};
+ghost use Rattle.boc_said.specs.Lines.{AreLinesOf};
+
 use crate::broken::put_broken;
-use crate::command_words::WHATIF;
-use crate::formed::{put_form, put_header, put_reason};
-use crate::run::{Life, Run, line_at};
+use crate::formed::{number, put_form, put_header};
+use crate::run::{Life, life_of, line_at, row_count, run_before};
 use boc_record::{RecordFault, RecordFaultKind};
+use boc_rules::Judge;
 use boc_said::place::{
     Beside, Place, Text, looks_like_names, looks_like_program, looks_like_record, put_names_file,
     put_nothing, put_pair,
 };
-use boc_said::said::{Part, Said};
+use boc_said::said::Part::{Many, Words};
+use boc_said::said::Said;
 use std::alloc::{AllocError, Global};
 
-/// What is told of the text of a record behind the line of its fault. There is nothing to tell where that line wasn't kept.
+/// Returns what is reported of the text of a record after the line of its fault. There is nothing to report where that line wasn't kept.
 pub fn explain_record(
     alloc: Global,
     text: Text<'_>,
     place: Place<'_>,
     fault: RecordFault,
-) -> Result<String, AllocError> {
-    let mut said = Said::of(alloc, text, fault.line)?;
+) -> Result<String, AllocError>
+    ensures { IfOk result (λ told. AreLinesOf (option_copied text.entry.name) (string_bytes told)) }
+{
+    let mut said = Said::new(alloc);
+    said.set_place(fault.line, 1);
     if text.bytes.is_empty() && text.whole {
         put_nothing(&mut said, text)?;
     } else if fault.line == 1 && looks_like_names(text.bytes) {
         put_names_file(&mut said)?;
     } else if fault.line == 1 && looks_like_program(text.bytes) {
         put_program(&mut said, place)?;
-    } else if let Some((line, is_ended)) = line_at(text.bytes, fault.line)
-        && (is_ended || text.whole)
-    {
+    } else if let Some(line) = line_at(text, fault.line) {
         put_fault(alloc, &mut said, text.bytes, line, fault)?;
     }
-    Ok(said.into_text())
+    said.into_text(text.name)
 }
 
-// Tells that a program stands where a record is wanted. Behind `--record` the input was taken, so it is the program.
+// Reports that a program is where a record is wanted. After `--record` the input was taken, so it is the program.
 fn put_program(said: &mut Said, place: Place<'_>) -> Result<(), AllocError> {
     if place.is_beside && place.beside == Some(Beside::Record) {
         return said.words(
@@ -45,17 +51,17 @@ fn put_program(said: &mut Said, place: Place<'_>) -> Result<(), AllocError> {
         let swapped = looks_like_record(place.other);
         return put_pair(said, place, "program", "record", swapped);
     }
-    said.line(&[
-        Part::Words("this looks like a program; "),
-        Part::Words(place.command),
-        Part::Words(" reads records: boc run FILE | boc "),
-        Part::Words(place.command),
-        Part::Words(if place.command.as_bytes() == WHATIF {
-            " --program FILE"
-        } else {
-            ""
-        }),
-    ])
+    let is_whatif = place.command.as_bytes() == b"whatif".as_slice();
+    let file = if is_whatif { " --program FILE" } else { "" };
+    said.tell(
+        "this looks like a program; {} reads records: boc run FILE | boc {}",
+        &[Words(place.command), Words(place.command), Words(file)],
+    )
+}
+
+/// Returns whether the text of a record is of the first version, in which ends have no cowns.
+pub(crate) fn is_first_version(text: &[u8]) -> bool {
+    text.starts_with(b"boc 1")
 }
 
 fn put_fault(
@@ -65,59 +71,63 @@ fn put_fault(
     line: &[u8],
     fault: RecordFault,
 ) -> Result<(), AllocError> {
+    said.set_subject(line)?;
     match fault.kind {
         RecordFaultKind::Header => put_header(said, line),
-        RecordFaultKind::Form => put_form(
-            said,
-            line,
-            matches!(text, [b'b', b'o', b'c', b' ', b'1', ..]),
-        ),
-        RecordFaultKind::After if line.starts_with(b"boc ") => {
-            put_reason(
-                said,
-                line,
-                "another record begins here; a file has only one",
-            )
+        RecordFaultKind::Form => put_form(said, line, is_first_version(text)),
+        RecordFaultKind::After => {
+            let reason = if line.starts_with(b"boc ") {
+                "another record begins here; a file has only one"
+            } else {
+                "nothing can follow the line `.`"
+            };
+            said.about(reason, &[])
         }
-        RecordFaultKind::After => { put_reason(said, line, "nothing can follow the line `.`") }
-        RecordFaultKind::Unended => put_left(alloc, said, text, fault.line),
+        RecordFaultKind::Unended => put_left(said, &run_before(alloc, text, fault.line)?),
         RecordFaultKind::Truncated => {
             if line.is_empty() {
                 said.words("the record ends before the line `.`")?;
             } else {
-                put_reason(said, line, "the record ends within this line")?;
+                said.about("the record ends within this line", &[])?;
             }
-            put_left(alloc, said, text, fault.line)
+            put_left(said, &run_before(alloc, text, fault.line)?)
         }
         RecordFaultKind::Memory | RecordFaultKind::Device => Ok(()),
-        broken => put_broken(alloc, said, text, line, fault.line, broken),
+        _ => put_broken(alloc, said, text, line, fault),
     }
 }
 
-// Tells what is left undone in front of a line.
-fn put_left(alloc: Global, said: &mut Said, text: &[u8], line: u64) -> Result<(), AllocError> {
-    let run = Run::before(alloc, text, line)?;
-    if run.rows.is_empty() {
+// Reports what a run has left undone.
+fn put_left(said: &mut Said, run: &Judge) -> Result<(), AllocError> {
+    if run.count() == 0 {
         return said.words("no row was spawned yet");
     }
-    put_rows(said, &run, Life::Pending, " not started, the first is row ")?;
     put_rows(
         said,
-        &run,
+        run,
+        Life::Pending,
+        "{} not started, the first is row ",
+    )?;
+    put_rows(
+        said,
+        run,
         Life::Running,
-        " started and not ended, the first is row ",
+        "{} started and not ended, the first is row ",
     )
 }
 
-// Tells how many rows have come so far, and which is the first of them.
-fn put_rows(said: &mut Said, run: &Run, life: Life, words: &str) -> Result<(), AllocError> {
-    let Some(first) = run.rows.iter().position(|row| row.life == life) else {
-        return Ok(());
-    };
-    let count = run.rows.iter().filter(|row| row.life == life).count();
-    said.line(&[
-        Part::Many(count as u64, "row"),
-        Part::Words(words),
-        Part::Number(first as u64),
-    ])
+// Reports how many rows have come so far, and which is the first of them.
+fn put_rows(said: &mut Said, run: &Judge, life: Life, words: &str) -> Result<(), AllocError> {
+    let mut count: u64 = 0;
+    let mut first = None;
+    for row in 0..row_count(run) {
+        if life_of(run, row) == Some(life) {
+            count = count.saturating_add(1);
+            first = first.or(Some(row));
+        }
+    }
+    match first {
+        Some(row) => said.tell(words, &[Many(count, "row"), number(row)]),
+        None => Ok(()),
+    }
 }

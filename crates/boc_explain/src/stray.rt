@@ -1,202 +1,287 @@
-// Records that stray from a program: what the program does there, and what the record has.
+// Records that diverge from a program: what the program does there, and what the record has.
 
-use crate::followed::{Course, Deed, deed_at, writes_others};
-use crate::formed::put_reason;
-use crate::names::program_cowns;
+ghost use Rattle.std.specs.Prelude.{IfOk, string_bytes};
+ghost use Rattle.std.specs.Option.{option_copied};
+ghost use Rattle.boc_said.specs.Lines.{AreLinesOf};
+
+use crate::formed::number;
+use crate::names::{called, program_cowns};
+use crate::record::is_first_version;
 use crate::run::line_at;
-use boc_follow::{StrayFault, StrayFaultKind};
-use boc_program::body::EndStatus;
-use boc_program::short::CownNo;
+use boc_eval::Instance;
+use boc_follow::{Follower, StrayFault, StrayFaultKind, TakeFault};
+use boc_names::{CownNames, behaviour_text, def_names};
+use boc_program::cowns::rising_cowns;
+use boc_program::limits::MOST_COWNS;
+use boc_program::short::{CownNo, Cowns};
+use boc_reader::read_listed;
+use boc_record::{put_line, read_record};
+use boc_registers::compiled::CompiledProgram;
 use boc_runs::event::Event;
+use boc_runs::record::Record;
 use boc_said::place::Text;
-use boc_said::said::{Part, Said};
-use boc_text::put_number;
+use boc_said::said::Part::{Bytes as Shown, Many, Quote, Words};
+use boc_said::said::Said;
+use boc_text::{Bytes, put_number};
 use std::alloc::{AllocError, Global};
 
-/// What is told behind the line of its fault of a record that strays from this program.
+/// Returns what is reported after the line of its fault of a record that diverges from this program.
 pub fn explain_stray(
     alloc: Global,
     text: Text<'_>,
     program: Text<'_>,
     fault: StrayFault,
-) -> Result<String, AllocError> {
-    let mut said = Said::of(alloc, text, fault.line)?;
-    let Some((line, true)) = line_at(text.bytes, fault.line) else {
-        return Ok(said.into_text());
-    };
-    match fault.kind {
-        StrayFaultKind::OtherCowns => put_other_cowns(alloc, &mut said, line, program.bytes)?,
-        StrayFaultKind::NotNextSpawn | StrayFaultKind::NotItsEnd => {
-            match course_at(alloc, text, program, fault.line)? {
-                Some(course) => put_course(alloc, &mut said, line, &course)?,
-                None => put_unknown_course(&mut said, line, fault.kind)?,
-            }
-        }
-        StrayFaultKind::Memory => {}
+) -> Result<String, AllocError>
+    ensures { IfOk result (λ told. AreLinesOf (option_copied text.entry.name) (string_bytes told)) }
+{
+    let mut said = Said::new(alloc);
+    if let Some(line) = line_at(text, fault.line) {
+        said.set_place(fault.line, 1);
+        said.set_subject(line)?;
+        put_stray(alloc, &mut said, text, program, fault)?;
     }
-    Ok(said.into_text())
+    said.into_text(text.name)
 }
 
-// Tells how many cowns a program has whose record has others.
-fn put_other_cowns(
+fn put_stray(
     alloc: Global,
     said: &mut Said,
-    line: &[u8],
-    program: &[u8],
-) -> Result<(), AllocError> {
-    match program_cowns(alloc, program)? {
-        Some(count) => said.line(&[
-            Part::Quote(line),
-            Part::Words(": the program has "),
-            Part::Many(count, "cown"),
-        ]),
-        None => Ok(()),
-    }
-}
-
-// What the program does in place of the event on a line of its record, where both texts were kept.
-fn course_at(
-    alloc: Global,
     text: Text<'_>,
     program: Text<'_>,
-    line: u64,
-) -> Result<Option<Course>, AllocError> {
-    if !text.whole || !program.whole {
-        return Ok(None);
-    }
-    // The first line is no event, and lines are counted from 1.
-    let place = line.saturating_sub(2);
-    deed_at(alloc, text.bytes, program.bytes, place as usize)
-}
-
-// Tells what may be where not all of the texts was kept.
-fn put_unknown_course(
-    said: &mut Said,
-    line: &[u8],
-    kind: StrayFaultKind,
+    fault: StrayFault,
 ) -> Result<(), AllocError> {
-    let reason = match kind {
-        StrayFaultKind::NotNextSpawn => {
-            "in the program its parent spawns at another tick, over other cowns, or no more"
-        }
-        _ => "in the program it ends after other ticks, with other cowns written, or spawns first",
-    };
-    put_reason(said, line, reason)
-}
-
-// Tells what the program does in place of what a line says.
-fn put_course<'a>(
-    alloc: Global,
-    said: &mut Said,
-    line: &'a [u8],
-    course: &'a Course,
-) -> Result<(), AllocError> {
-    let row = Part::Number(u64::from(course.row));
-    let (begin, end) = if course.is_first_version && writes_others(&course.deed, &course.event) {
-        (
-            ": version 1 can't say how row ",
-            " ends in the program; version 2 says ",
-        )
-    } else {
-        (": in the program row ", " continues with ")
-    };
-    said.line(&[
-        Part::Quote(line),
-        Part::Words(begin),
-        row,
-        Part::Words(end),
-        Part::Quote(&course.line),
-    ])?;
-    let (then, spawned) = match (&course.deed, &course.event) {
-        (Deed::Spawns { name, .. }, Event::Spawn { .. }) => {
-            (", and next spawns ", Part::Quote(name))
-        }
-        (Deed::Spawns { name, .. }, _) => (", and before it ends it spawns ", Part::Quote(name)),
-        (Deed::Ends { .. }, Event::Spawn { .. }) => {
-            (", and ends without another spawn", Part::Words(""))
-        }
-        _ => (", and ends", Part::Words("")),
-    };
-    said.line(&[
-        Part::Words("row "),
-        row,
-        Part::Words(" is "),
-        Part::Quote(&course.name),
-        Part::Words(then),
-        spawned,
-    ])?;
-    put_differences(alloc, said, course)
-}
-
-// Tells in what the deed of the program and the event of the record differ, where both are of one kind.
-fn put_differences(alloc: Global, said: &mut Said, course: &Course) -> Result<(), AllocError> {
-    match (&course.deed, &course.event) {
-        (
-            Deed::Spawns { offset, cowns, .. },
-            Event::Spawn {
-                offset: told,
-                cowns: held,
-                ..
-            },
-        ) => {
-            put_numbers(said, "it spawns it at its tick ", *offset, *told)?;
-            put_cowns(alloc, said, "it spawns it over ", cowns, held)
-        }
-        (
-            Deed::Ends {
-                ticks,
-                status,
-                written,
-            },
-            Event::End {
-                ticks: told,
-                status: other,
-                written: noted,
-                ..
-            },
-        ) => {
-            put_numbers(said, "its ticks are ", *ticks, *told)?;
-            let (status, other) = (number_of(*status), number_of(*other));
-            put_numbers(said, "its status is ", status, other)?;
-            put_written(alloc, said, written, noted, course.is_first_version)
-        }
-        _ => Ok(()),
-    }
-}
-
-// Tells the cowns that an end wrote, where the record has others; in its first version it has all cowns of the row.
-fn put_written(
-    alloc: Global,
-    said: &mut Said,
-    written: &[CownNo],
-    noted: &[CownNo],
-    is_first_version: bool,
-) -> Result<(), AllocError> {
-    if !is_first_version || written == noted {
-        return put_cowns(alloc, said, "it writes ", written, noted);
-    }
-    let written = cowns_text(alloc, written)?;
-    said.line(&[
-        Part::Words("it writes "),
-        Part::Bytes(&written),
-        Part::Words(", and in version 1 a record says that it writes all its cowns"),
-    ])
-}
-
-// Tells two numbers, where they differ: the program's, and the record's.
-fn put_numbers(said: &mut Said, words: &str, number: u32, told: u32) -> Result<(), AllocError> {
-    if number == told {
+    if fault.kind == StrayFaultKind::Memory {
         return Ok(());
     }
-    said.line(&[
-        Part::Words(words),
-        Part::Number(u64::from(number)),
-        Part::Words(", and the record has "),
-        Part::Number(u64::from(told)),
-    ])
+    if fault.kind == StrayFaultKind::OtherCowns {
+        return match program_cowns(alloc, program.bytes)? {
+            Some(count) => said.about("the program has ", &[Many(count, "cown")]),
+            None => Ok(()),
+        };
+    }
+    // The first line is no event, and lines are counted from 1.
+    let place = fault.line.saturating_sub(2) as usize;
+    let is_known = text.whole && program.whole;
+    if is_known && put_at(alloc, said, text.bytes, program.bytes, place)? {
+        return Ok(());
+    }
+    let is_spawn = fault.kind == StrayFaultKind::NotNextSpawn;
+    let reason = if is_spawn {
+        "in the program its parent spawns at another tick, over other cowns, or no more"
+    } else {
+        "in the program it ends after other ticks, with other cowns written, or spawns first"
+    };
+    said.about(reason, &[])
 }
 
-// Tells two lists of cowns, where they differ: the program's, and the record's.
+// Reports what a program does instead of the event at this place of the record with this text, which diverges from it there. Answers whether that is known.
+fn put_at(
+    alloc: Global,
+    said: &mut Said,
+    text: &[u8],
+    program: &[u8],
+    place: usize,
+) -> Result<bool, AllocError> {
+    let Ok((program, listings)) = read_listed(alloc, program) else {
+        return Ok(false);
+    };
+    let Ok(record) = read_record(alloc, &mut Bytes::new(Vec::from_slice(alloc, text)?)) else {
+        return Ok(false);
+    };
+    let defs = def_names(alloc, &called(alloc, listings)?)?;
+    let compiled = CompiledProgram::new(alloc, &program)?;
+    let mut run = Follower::new(alloc, &compiled)?;
+    match event_at(&mut run, &record, place)? {
+        Some(event) => put_event(alloc, said, &run, &defs, &event, is_first_version(text)),
+        None => Ok(false),
+    }
+}
+
+// The event at a place of a record, once the events before it are taken.
+fn event_at(
+    run: &mut Follower<'_>,
+    record: &Record,
+    place: usize,
+) -> Result<Option<Event>, AllocError> {
+    let events = record.events();
+    if place >= events.len() {
+        return Ok(None);
+    }
+    for before in 0..place {
+        match run.take(&events.get(before)) {
+            Ok(()) => {}
+            Err(TakeFault::Memory) => return Err(AllocError),
+            Err(TakeFault::NotAllowed) => return Ok(None),
+        }
+    }
+    Ok(Some(events.get(place)))
+}
+
+// Reports what a row of a run does instead of an event of it. Answers whether that is known.
+fn put_event(
+    alloc: Global,
+    said: &mut Said,
+    run: &Follower<'_>,
+    defs: &[Vec<u8>],
+    event: &Event,
+    is_first: bool,
+) -> Result<bool, AllocError> {
+    let row = match event {
+        Event::Spawn { parent, .. } => *parent,
+        Event::Start { row } | Event::End { row, .. } => *row,
+    };
+    let Some(next) = next_of(run, row) else {
+        return Ok(false);
+    };
+    put_next(alloc, said, row, &next, event, is_first)?;
+    put_names(alloc, said, row, run, defs, event)?;
+    put_differences(alloc, said, &next, event, is_first)?;
+    Ok(true)
+}
+
+// The event by which a row of a run goes on, if it runs.
+fn next_of(run: &Follower<'_>, row: u32) -> Option<Event> {
+    match run.next_wish(row) {
+        Some(wish) => Some(Event::Spawn {
+            row: run.rows() as u32,
+            parent: row,
+            offset: wish.offset,
+            cowns: rising_cowns(wish.cowns.as_slice()),
+        }),
+        None => run.end_of(row),
+    }
+}
+
+// Whether two events are ends that wrote other cowns.
+fn write_others(next: &Event, event: &Event) -> bool {
+    match (next, event) {
+        (Event::End { written, .. }, Event::End { written: noted, .. }) => {
+            written.as_slice() != noted.as_slice()
+        }
+        _ => false,
+    }
+}
+
+// Reports the line of a record that has what a row does next. In the first version ends have no cowns.
+fn put_next(
+    alloc: Global,
+    said: &mut Said,
+    row: u32,
+    next: &Event,
+    event: &Event,
+    is_first: bool,
+) -> Result<(), AllocError> {
+    let is_untold = is_first && write_others(next, event);
+    let mut told = next.duplicate();
+    if is_first
+        && !is_untold
+        && let Event::End { written, .. } = &mut told
+    {
+        *written = Cowns::new();
+    }
+    let mut line = Vec::new(alloc);
+    put_line(&mut line, &told)?;
+    let _feed = line.pop();
+    let words = if is_untold {
+        "version 1 can't say how row {} ends in the program; version 2 says "
+    } else {
+        "in the program row {} continues with "
+    };
+    said.about(words, &[number(row), Quote(&line)])
+}
+
+// Reports what a row is called, and what it does next instead of an event.
+fn put_names(
+    alloc: Global,
+    said: &mut Said,
+    row: u32,
+    run: &Follower<'_>,
+    defs: &[Vec<u8>],
+    event: &Event,
+) -> Result<(), AllocError> {
+    let declared = run.program().cowns.as_slice();
+    if declared.len() > MOST_COWNS {
+        return Ok(());
+    }
+    let cowns = CownNames::of(alloc, declared)?;
+    let name = match run.instance(row) {
+        Some(instance) => behaviour_text(alloc, defs, &cowns, instance)?,
+        None => return Ok(()),
+    };
+    let is_spawn = matches!(event, Event::Spawn { .. });
+    let Some(wish) = run.next_wish(row) else {
+        let end = if is_spawn {
+            " without another spawn"
+        } else {
+            ""
+        };
+        return said.tell(
+            "row {} is {}, and ends",
+            &[number(row), Quote(&name), Words(end)],
+        );
+    };
+    let spawned = behaviour_text(alloc, defs, &cowns, &Instance::of(wish))?;
+    let words = if is_spawn {
+        "row {} is {}, and next spawns "
+    } else {
+        "row {} is {}, and before it ends it spawns "
+    };
+    said.tell(words, &[number(row), Quote(&name), Quote(&spawned)])
+}
+
+// Reports in what the event that a program has and that of the record differ, where both are of one kind.
+fn put_differences(
+    alloc: Global,
+    said: &mut Said,
+    next: &Event,
+    event: &Event,
+    is_first: bool,
+) -> Result<(), AllocError> {
+    if let Event::Spawn { offset, cowns, .. } = next
+        && let Event::Spawn {
+            offset: told,
+            cowns: held,
+            ..
+        } = event
+    {
+        put_numbers(said, "it spawns it at its tick ", *offset, *told)?;
+        put_cowns(alloc, said, "it spawns it over ", cowns, held)?;
+    }
+    if let Event::End {
+        ticks,
+        status,
+        written,
+        ..
+    } = next
+        && let Event::End {
+            ticks: told,
+            status: other,
+            written: noted,
+            ..
+        } = event
+    {
+        put_numbers(said, "its ticks are ", *ticks, *told)?;
+        put_numbers(said, "its status is ", *status as u32, *other as u32)?;
+        if is_first && write_others(next, event) {
+            let written = cowns_text(alloc, written)?;
+            let words = "it writes {}, and in version 1 a record says that it writes all its cowns";
+            return said.tell(words, &[Shown(&written)]);
+        }
+        put_cowns(alloc, said, "it writes ", written, noted)?;
+    }
+    Ok(())
+}
+
+// Reports two numbers, where they differ: the program's, and the record's.
+fn put_numbers(said: &mut Said, words: &str, is: u32, told: u32) -> Result<(), AllocError> {
+    if is == told {
+        return Ok(());
+    }
+    let parts = [Words(words), number(is), number(told)];
+    said.tell("{}{}, and the record has ", &parts)
+}
+
+// Reports two lists of cowns, where they differ: the program's, and the record's.
 fn put_cowns(
     alloc: Global,
     said: &mut Said,
@@ -207,14 +292,9 @@ fn put_cowns(
     if cowns == told {
         return Ok(());
     }
-    let cowns = cowns_text(alloc, cowns)?;
-    let told = cowns_text(alloc, told)?;
-    said.line(&[
-        Part::Words(words),
-        Part::Bytes(&cowns),
-        Part::Words(", and the record has "),
-        Part::Bytes(&told),
-    ])
+    let (cowns, told) = (cowns_text(alloc, cowns)?, cowns_text(alloc, told)?);
+    let parts = [Words(words), Shown(&cowns), Shown(&told)];
+    said.tell("{}{}, and the record has ", &parts)
 }
 
 // Cowns by their numbers.
@@ -230,9 +310,4 @@ fn cowns_text(alloc: Global, cowns: &[CownNo]) -> Result<Vec<u8>, AllocError> {
         put_number(&mut text, u64::from(*cown))?;
     }
     Ok(text)
-}
-
-// The number of a status.
-fn number_of(status: EndStatus) -> u32 {
-    status as u32
 }

@@ -6,13 +6,13 @@ use Rattle.boc_text.specs.declared.lines.TheConstants.{MOST_LINE}
 use Rattle.boc_runs.specs.declared.event.Event.{Event}
 use Rattle.boc_record.specs.declared.verdict.RecordFaultKind.{RecordFaultKind}
 use Rattle.boc_record.specs.declared.verdict.RecordFaultKind.TheVariants as kinds
-use Rattle.boc_runs.specs.Legal.{Entry, HasBounds, IsComplete}
+use Rattle.boc_runs.specs.Legal.{Entry, HasBounds, IsComplete, entries}
 use Rattle.boc_runs.specs.declared.rows.Row.{Row}
 use Rattle.boc_runs.specs.Records.{Recorded}
 use Rattle.boc_record.specs.RecordTexts.{Version, IsOneLine, IsCut, IsSpelt, IsTextOf, HasBegun, HasNoForm, FirstLineIs, begun, line, header, event_line}
 use Rattle.boc_record.specs.RecordTexts.{record_text, kind_of_rule, IsFirstFault}
 use Rattle.boc_text.specs.declared.lines.TheConstants.{CAPACITY}
-use Rattle.boc_rules.specs.Course.{IsOver}
+use Rattle.boc_rules.specs.Course.{Course, IsOver}
 use Rattle.boc_rules.specs.declared.fault.RuleFault.{RuleFault}
 use Rattle.boc_rules.specs.declared.fault.RuleFault.TheVariants.{Broken, Memory}
 use Rattle.boc_record.specs.declared.fault.RecordFault.{RecordFault}
@@ -92,6 +92,22 @@ ReadsRows (Err fault) before after = IsFault fault.kind fault.line before after
 abbrev pub ReadsCounted : Result (List Row × ℕ) RecordFault → Option (List ℕ) → Option (List ℕ) → Type 0
 ReadsCounted (Ok read) before after = (r : Recorded) × TakesRecord r before after × (read.0 ≡ r.rows) × (read.1 ≡ r.cowns)
 ReadsCounted (Err fault) before after = IsFault fault.kind fault.line before after
+
+-- The first line of a text and the lines of so many events were taken, over so many cowns, which make these rows; or of all events, where the last line
+-- comes before that.
+pub record TakesFirst (count cowns : ℕ) (rows : List Entry) (before : Option (List ℕ)) : Type 0 where
+  pub version : Version
+  pub events : List Event
+  pub rows_are : rows ≡ entries events
+  pub begins : HasBegun version cowns events
+  pub next : Option (List ℕ)
+  pub given : Consumes before next (begun version cowns events)
+  pub counted : (count ≡ length events) ⊎ ((behind : Option (List ℕ)) × Consumes next behind (line (codes ".")))
+
+-- the first events of a text were taken, or its fault told
+abbrev pub ReadsFirst : ℕ → Result Course RecordFault → Option (List ℕ) → Option (List ℕ) → Type 0
+ReadsFirst count (Ok run) before after = TakesFirst count run.cowns run.rows before
+ReadsFirst count (Err fault) before after = IsFault fault.kind fault.line before after
 
 -- the source failed where that is the answer, and there alone
 abbrev pub CountsKind : RecordFaultKind → ℕ → ℕ → Type 0

@@ -1,6 +1,6 @@
 // The line of an event at the front of bytes that are taken in, read without looking for its end first. There are two
 // readers of events: this one is the faster, and finds most; `line` has the others, with longer numbers or near the end of
-// the bytes, and tells which lines are none.
+// the bytes, and says which lines are none.
 
 ghost use Rattle.std.specs.Prelude.{◌≡◌, ◌<◌, ◌≤◌, length, IfSome};
 ghost use Rattle.boc_program.specs.declared.limits.TheConstants.{MOST_HELD};
@@ -21,7 +21,7 @@ const AHEAD: usize = 98;
 /// One digit more than are read of a number.
 const DIGITS: usize = 8;
 
-// How many digits stand at the front of a text, and what they are worth, where there are at most seven.
+// Returns how many digits are at the front of a text, and what they are worth, where there are at most seven.
 #[inline(always)]
 fn few_digits(text: &[u8]) -> Option<(usize, u32)>
     requires { 8 ≤ length text.now }
@@ -39,7 +39,7 @@ fn few_digits(text: &[u8]) -> Option<(usize, u32)>
     None
 }
 
-// The field at the front of a text, and what stands behind it, where it has at most seven digits.
+// Returns the field at the front of a text, and what comes after it, where it has at most seven digits.
 #[inline(always)]
 fn field_ahead(text: &[u8]) -> Option<(u32, &[u8])>
     requires { 9 ≤ length text.now }
@@ -59,7 +59,7 @@ fn field_ahead(text: &[u8]) -> Option<(u32, &[u8])>
     Some((value, &after[len..]))
 }
 
-// The cowns that stand at the front of a text, up to a byte that is no space, and what stands behind them.
+// Returns the cowns that are at the front of a text, up to a byte that is no space, and what comes after them.
 fn cowns_ahead(text: &[u8]) -> Option<(Cowns, &[u8])>
     requires { 73 ≤ length text.now }
     ensures fields { IfSome result (λ x. AreFieldsAhead text.now x.0.items x.1.now) }
@@ -78,7 +78,7 @@ fn cowns_ahead(text: &[u8]) -> Option<(Cowns, &[u8])>
     Some((cowns, rest))
 }
 
-// The spawn that the fields at the front of a text tell, in any version, and what stands behind them.
+// Returns the spawn that the fields at the front of a text report, in any version, and what comes after them.
 fn spawn_ahead(fields: &[u8]) -> Option<(Event, &[u8])>
     requires { 97 ≤ length fields.now }
     ensures { (v : Spelling) → IfSome result (λ x. TellsAhead v 43 fields.now x.0 x.1.now) }
@@ -96,7 +96,7 @@ fn spawn_ahead(fields: &[u8]) -> Option<(Event, &[u8])>
     Some((event, rest))
 }
 
-// The start that the field at the front of a text tells, in any version, and what stands behind it.
+// Returns the start that the field at the front of a text reports, in any version, and what comes after it.
 fn start_ahead(fields: &[u8]) -> Option<(Event, &[u8])>
     requires { 97 ≤ length fields.now }
     ensures { (v : Spelling) → IfSome result (λ x. TellsAhead v 62 fields.now x.0 x.1.now) }
@@ -105,7 +105,7 @@ fn start_ahead(fields: &[u8]) -> Option<(Event, &[u8])>
     Some((Event::Start { row }, rest))
 }
 
-// The end that the fields at the front of a text tell in the second version, and what stands behind them.
+// Returns the end that the fields at the front of a text report in the second version, and what comes after them.
 fn end_ahead(fields: &[u8]) -> Option<(Event, &[u8])>
     requires { 97 ≤ length fields.now }
     ensures { IfSome result (λ x. TellsAhead Second 60 fields.now x.0 x.1.now) }
@@ -124,7 +124,7 @@ fn end_ahead(fields: &[u8]) -> Option<(Event, &[u8])>
     Some((event, rest))
 }
 
-// The event that a sign and the fields at the front of a text tell, and what stands behind them.
+// Returns the event that a sign and the fields at the front of a text report, and what comes after them.
 fn told_ahead(sign: u8, fields: &[u8], version: Version) -> Option<(Event, &[u8])>
     requires { 97 ≤ length fields.now }
     ensures { IfSome result (λ x. TellsAhead (spelling version) sign fields.now x.0 x.1.now) }
@@ -140,7 +140,7 @@ fn told_ahead(sign: u8, fields: &[u8], version: Version) -> Option<(Event, &[u8]
     }
 }
 
-/// The event whose line stands at the front of bytes with its line feed, and how many bytes that line has. It need not
+/// Returns the event whose line is at the front of bytes with its line feed, and how many bytes that line has. It need not
 /// be found: a line with longer numbers, one near the end of the bytes and an end of the first version are not.
 pub fn event_ahead(bytes: &[u8], version: Version) -> Option<(Event, usize)>
     ensures { IfSome result (λ x. IsLineAhead (spelling version) bytes.now x.0 x.1) }

@@ -17,7 +17,7 @@ pub struct RecordFault {
     pub kind: RecordFaultKind,
 }
 
-// The number and the name of a kind.
+// Returns the number and the name of a kind.
 fn kind_text(kind: RecordFaultKind) -> &'static str
     ensures { result.now ≡ kind_line kind }
 {
@@ -40,7 +40,7 @@ fn kind_text(kind: RecordFaultKind) -> &'static str
 }
 
 impl RecordFault {
-    /// The number and the name of what is wrong, as they are displayed.
+    /// Returns the number and the name of what is wrong, as they are displayed.
     pub fn kind_text(&self) -> &'static str
         ensures { result.now ≡ kind_line self.now.kind }
     {
@@ -48,7 +48,7 @@ impl RecordFault {
     }
 }
 
-/// What a line has wrong whose event is refused.
+/// Returns what a line has wrong whose event is refused.
 pub fn kind_of(fault: RuleFault) -> RecordFaultKind
     ensures { result ≡ kind_of_fault fault }
 {

@@ -1,4 +1,4 @@
-// The fields of a line: numbers, each behind a space.
+// The fields of a line: numbers, each after a space.
 
 ghost use Rattle.std.specs.Prelude.{◌≡◌, ◌≤◌, ◌^◌, ◌<◌, ◌++◌, [], ℕ, List, All, length, MatchOption};
 ghost use Rattle.boc_program.specs.declared.limits.TheConstants.{MOST_HELD};
@@ -10,7 +10,7 @@ use boc_program::short::Cowns;
 /// The most digits of a number of 32 bits.
 const MOST_DIGITS: usize = 10;
 
-// How many digits stand at the front of a text, ten at most, and what they are worth.
+// Returns how many digits are at the front of a text, ten at most, and what they are worth.
 fn front_digits(text: &[u8]) -> (usize, u64)
     ensures { IsFront text.now result.0 result.1 }
 {
@@ -26,7 +26,7 @@ fn front_digits(text: &[u8]) -> (usize, u64)
     (most, value)
 }
 
-/// The field at the front of a text, and what stands behind it.
+/// Returns the field at the front of a text, and what comes after it.
 pub fn split_field(text: &[u8]) -> Option<(u32, &[u8])>
     ensures { MatchOption result ((n : ℕ) (rest : List ℕ) → IsField text.now n rest → ⊥) (λ x. IsField text.now x.0 x.1.now) }
 {
@@ -51,7 +51,7 @@ pub fn split_field(text: &[u8]) -> Option<(u32, &[u8])>
     Some((value as u32, rest))
 }
 
-/// The cowns of a text of at most eight fields.
+/// Returns the cowns of a text of at most eight fields.
 pub fn cowns_of(text: &[u8]) -> Option<Cowns>
     ensures { MatchOption result ((ns : List ℕ) → AreSmall ns → length ns ≤ MOST_HELD → text.now ≡ fields_of ns → ⊥)
         (λ v. AreSmall v.items × (length v.items ≤ MOST_HELD) × (text.now ≡ fields_of v.items)) }

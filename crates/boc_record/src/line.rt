@@ -1,4 +1,4 @@
-// The lines of a record: each is read, or refused. Most lines of events are found by `ahead` before it comes to that.
+// The lines of a record: each is read, or refused. Most lines of events are found by `ahead` before that.
 
 ghost use Rattle.std.specs.Prelude.{◌≡◌, ◌≤◌, ◌++◌, ℕ, List, codes, length, MatchOption};
 ghost use Rattle.boc_program.specs.declared.limits.TheConstants.{MOST_COWNS, MOST_HELD};
@@ -16,7 +16,7 @@ use boc_program::short::Cowns;
 use boc_rules::Judge;
 use boc_runs::event::Event;
 
-/// The version and the number of cowns that a first line tells.
+/// Returns the version and the number of cowns that a first line reports.
 pub fn version_and_cowns(line: &[u8]) -> Option<(Version, u32)>
     ensures { MatchOption result (IsHeader line.now → ⊥) (λ h. (h.1 ≤ MOST_COWNS) × (line.now ≡ header (spelling h.0) h.1)) }
 {
@@ -28,7 +28,7 @@ pub fn version_and_cowns(line: &[u8]) -> Option<(Version, u32)>
     Some((Version::of_number(number)?, cowns))
 }
 
-// What stands behind the mark at the front of a first line.
+// Returns what comes after the mark at the front of a first line.
 fn after_mark(line: &[u8]) -> Option<&[u8]>
     ensures { MatchOption result ((rest : List ℕ) → line.now ≡ codes "boc" ++ rest → ⊥) (λ rest. line.now ≡ codes "boc" ++ rest.now) }
 {
@@ -38,7 +38,7 @@ fn after_mark(line: &[u8]) -> Option<&[u8]>
     }
 }
 
-/// The event of a line that follows those of this run, in this version.
+/// Returns the event of a line that follows those of this run, in this version.
 pub fn event_of_line(line: &[u8], version: Version, judge: &Judge) -> Option<Event>
     ensures { MatchOption result (IsEventLine (spelling version) line.now → ⊥)
         (λ event. HasBounds event × (line.now ≡ event_line (spelling version) event) × IsSpelt (spelling version) judge.now.rows event) }
@@ -52,7 +52,7 @@ pub fn event_of_line(line: &[u8], version: Version, judge: &Judge) -> Option<Eve
     }
 }
 
-// The spawn that these fields tell, in any version: a row, its parent, an offset and cowns.
+// Returns the spawn that these fields report, in any version: a row, its parent, an offset and cowns.
 fn spawn_of(fields: &[u8]) -> Option<Event>
     ensures { MatchOption result ((v : Spelling) (event : Event) → Tells v 43 fields.now event → ⊥) (λ event. (v : Spelling) → Tells v 43 fields.now event) }
 {
@@ -68,7 +68,7 @@ fn spawn_of(fields: &[u8]) -> Option<Event>
     })
 }
 
-// The start that these fields tell, in any version: a row.
+// Returns the start that these fields report, in any version: a row.
 fn start_of(fields: &[u8]) -> Option<Event>
     ensures { MatchOption result ((v : Spelling) (event : Event) → Tells v 62 fields.now event → ⊥) (λ event. (v : Spelling) → Tells v 62 fields.now event) }
 {
@@ -79,7 +79,7 @@ fn start_of(fields: &[u8]) -> Option<Event>
     Some(Event::Start { row })
 }
 
-// The end that these fields tell: a row, its ticks, its status and what it wrote.
+// Returns the end that these fields report: a row, its ticks, its status and what it wrote.
 fn end_of(fields: &[u8], version: Version, judge: &Judge) -> Option<Event>
     ensures { MatchOption result ((event : Event) → Tells (spelling version) 60 fields.now event → ⊥)
         (λ event. Tells (spelling version) 60 fields.now event × IsSpelt (spelling version) judge.now.rows event) }
@@ -97,7 +97,7 @@ fn end_of(fields: &[u8], version: Version, judge: &Judge) -> Option<Event>
     })
 }
 
-// What the last fields of a row's end say that it wrote. In the first version there are none, and they stand for all
+// Returns what the last fields of a row's end say that it wrote. In the first version there are none, and they stand for all
 // of its cowns.
 fn written_of(fields: &[u8], row: u32, version: Version, judge: &Judge) -> Option<Cowns>
     ensures { MatchOption result ((written : List ℕ) → AreSmall written → length written ≤ MOST_HELD
@@ -111,7 +111,7 @@ fn written_of(fields: &[u8], row: u32, version: Version, judge: &Judge) -> Optio
     }
 }
 
-// All cowns of a row; none where it isn't there.
+// Returns all cowns of a row; none where it isn't there.
 fn all_cowns_of(row: u32, judge: &Judge) -> Cowns
     ensures all { result.items ≡ entry_cowns judge.now.rows row }
     ensures small { AreSmall result.items }
@@ -123,7 +123,7 @@ fn all_cowns_of(row: u32, judge: &Judge) -> Cowns
     }
 }
 
-// The status of a number.
+// Returns the status of a number.
 pub fn status_of(number: u32) -> Option<EndStatus>
     ensures { MatchOption result ((status : EndStatus) → number ≡ status_number status → ⊥) (λ status. number ≡ status_number status) }
 {

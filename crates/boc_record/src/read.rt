@@ -91,7 +91,7 @@ fn read_run<S: Source, E: EventSink>(alloc: Global, source: &mut S) -> Result<E,
 }
 
 // Reads the first line, and gives its version and its number of cowns.
-fn read_header<S: Source>(
+pub(crate) fn read_header<S: Source>(
     lines: &mut Lines,
     source: &mut S,
 ) -> Result<(Version, u32), RecordFaultKind>
@@ -114,9 +114,9 @@ fn read_header<S: Source>(
     }
 }
 
-// Reads the next line, in this version and behind this run: an event, or `None` for the last line. It is read where its caller keeps it.
+// Reads the next line, in this version and after this run: an event, or `None` for the last line. It is read where its caller keeps it.
 #[inline(always)]
-fn next_item<S: Source>(
+pub(crate) fn next_item<S: Source>(
     lines: &mut Lines,
     source: &mut S,
     version: Version,

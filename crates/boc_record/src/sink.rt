@@ -23,7 +23,7 @@ pub trait EventSink: Drop {
         requires { cowns ≤ MOST_COWNS }
         ensures { IfOk result (λ s. (cown_count s ≡ cowns) × has_taken s []) };
 
-    /// The run so far, as it is judged.
+    /// Returns the run so far, as it is judged.
     fn judge(&self) -> &Judge
         ensures cowns { result.now.cowns ≡ cown_count self.now }
         ensures rows { (log : List Event) → has_taken self.now log → result.now.rows ≡ entries log };

@@ -21,16 +21,16 @@ use std::alloc::{AllocError, Global};
 /// The number of the version in which records are written, the second.
 const WRITTEN_VERSION: u32 = 2;
 
-// The most bytes of a number behind a space.
+// The most bytes of a number after a space.
 const MOST_FIELD: usize = MOST_DIGITS + 1;
 
 // The most bytes of a line. It has a mark, at most eleven numbers, and a line feed.
 const MOST_BYTES: usize = 256;
 
-// How many lines are formed one in front of the other, and go out together.
+// How many lines are formed one before the other, and go out together.
 const TOGETHER: usize = 64;
 
-// The room in which they are formed.
+// The buffer in which they are formed.
 const ROOM: usize = TOGETHER * MOST_BYTES;
 
 // The most events of a record: three for each row.
@@ -66,7 +66,7 @@ fn send_record<W: Sink>(text: &mut Outgoing, record: &Record, sink: &mut W) -> R
     text.send(sink)
 }
 
-// Puts the lines of events behind a text that goes out. Those that go out together are formed in a room that all share.
+// Appends the lines of events to a text that goes out. Those that go out together are formed in a space that all share.
 fn send_events<W: Sink>(
     text: &mut Outgoing,
     events: &Events<'_>,
@@ -111,8 +111,8 @@ fn lines_before(room: &mut [u8], events: &Events<'_>, first: usize, behind: usiz
     begin
 }
 
-/// Puts the lines of events behind a text, as the second version of records has them. `AllocError` says that memory was refused;
-/// then whole lines stand there, those of the first events and not of all.
+/// Appends the lines of events to a text, as the second version of records has them. `AllocError` says that memory was refused;
+/// then whole lines are there, those of the first events and not of all.
 pub fn put_events(text: &mut Vec<u8>, events: &Events<'_>) -> Result<(), AllocError>
     ensures ok { OnOk result (text.new.items ≡ text.old.items ++ event_lines Second events.now) }
     ensures err { OnErr result (PutsFirst Second events.now text.old.items text.new.items) }
@@ -124,7 +124,16 @@ pub fn put_events(text: &mut Vec<u8>, events: &Events<'_>) -> Result<(), AllocEr
     Ok(())
 }
 
-// Puts the line of an event behind a text. It is formed in a room that all lines share. Nothing of it is put where memory is
+/// Appends the line of an event to a text, as the second version of records has it. Nothing of it is appended where memory is refused.
+pub fn put_line(text: &mut Vec<u8>, event: &Event) -> Result<(), AllocError>
+    ensures ok { OnOk result (text.new.items ≡ text.old.items ++ line (event_line Second event.now)) }
+    ensures err { OnErr result (text.new.items ≡ text.old.items) }
+{
+    let mut room = [b'\n'; MOST_BYTES];
+    put_event(text, &mut room, event)
+}
+
+// Appends the line of an event to a text. It is formed in a space that all lines share. Nothing of it is put where memory is
 // refused.
 fn put_event(text: &mut Vec<u8>, room: &mut [u8], event: &Event) -> Result<(), AllocError>
     requires { length room.old ≡ MOST_BYTES }
@@ -158,7 +167,7 @@ fn last_line_before(room: &mut [u8], event: &Event) -> usize
     line_before(room, MOST_BYTES, event)
 }
 
-// Forms the line of an event in front of what a room has from a place on, and says where it begins.
+// Forms the line of an event before what a room has from a place on, and says where it begins.
 fn line_before(room: &mut [u8], place: usize, event: &Event) -> usize
     requires room { (MOST_BYTES ≤ place) × (place ≤ length room.old) }
     ensures written { drop result room.new ≡ line (event_line Second event.now) ++ drop place room.old }
@@ -200,7 +209,7 @@ fn end_line(room: &mut [u8]) -> usize
     mark_before(room, MOST_BYTES, b'\n')
 }
 
-// Puts cowns in front of the line feed of a line, and says where they begin.
+// Puts cowns before the line feed of a line, and says where they begin.
 fn cowns_before(line: &mut [u8], feed: usize, cowns: &Cowns) -> usize
     requires room { (MOST_BYTES ≤ suc feed) × (feed < length line.old) }
     ensures written { drop result line.new ≡ fields cowns.now.items ++ drop feed line.old }
@@ -212,7 +221,7 @@ fn cowns_before(line: &mut [u8], feed: usize, cowns: &Cowns) -> usize
     fields_before(line, feed, cowns.as_slice())
 }
 
-// Puts a mark and three numbers in front of what a line has from a place on, and says where they begin.
+// Puts a mark and three numbers before what a line has from a place on, and says where they begin.
 fn three_before(
     line: &mut [u8],
     place: usize,
@@ -231,7 +240,7 @@ fn three_before(
     mark_before(line, at, mark)
 }
 
-// Puts a mark in front of what a line has from a place on, and says where it is.
+// Puts a mark before what a line has from a place on, and says where it is.
 fn mark_before(line: &mut [u8], place: usize, mark: u8) -> usize
     requires room { (0 < place) × (place ≤ length line.old) }
     ensures written { drop result line.new ≡ mark ∷ drop place line.old }
@@ -242,7 +251,7 @@ fn mark_before(line: &mut [u8], place: usize, mark: u8) -> usize
     at
 }
 
-// Puts numbers, each behind a space, in front of what a line has from a place on, and says where they begin.
+// Puts numbers, each after a space, before what a line has from a place on, and says where they begin.
 fn fields_before(line: &mut [u8], place: usize, numbers: &[u32]) -> usize
     requires room { (MOST_FIELD * length numbers.now + MOST_FIELD < place) × (place < length line.old) }
     ensures written { drop result line.new ≡ fields numbers.now ++ drop place line.old }
@@ -257,7 +266,7 @@ fn fields_before(line: &mut [u8], place: usize, numbers: &[u32]) -> usize
     }
 }
 
-// Puts a number behind a space in front of what a line has from a place on, and says where the space is.
+// Puts a number after a space before what a line has from a place on, and says where the space is.
 fn field_before(line: &mut [u8], place: usize, number: u32) -> usize
     requires room { (MOST_FIELD < place) × (place < length line.old) }
     ensures written { drop result line.new ≡ field number ++ drop place line.old }
@@ -269,7 +278,7 @@ fn field_before(line: &mut [u8], place: usize, number: u32) -> usize
     at
 }
 
-// The number of a status.
+// Returns the number of a status.
 fn number_of(status: EndStatus) -> u32
     ensures { result ≡ status_number status }
 {

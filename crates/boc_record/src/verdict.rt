@@ -22,7 +22,7 @@ pub enum RecordFaultKind {
     EndNotAllowed,
     /// A row more than a run may have.
     TooMany,
-    /// The line `.` stands before any row, or while a row is pending or running.
+    /// The line `.` is before any row, or while a row is pending or running.
     Unended,
     /// The input ends before the line feed of the line `.`.
     Truncated,

@@ -12,7 +12,7 @@ pub enum Version {
 }
 
 impl Version {
-    /// The version with this number.
+    /// Returns the version with this number.
     pub fn of_number(number: u32) -> Option<Version>
         ensures { MatchOption result ((v : Spelling) → number ≡ version_number v → ⊥) (λ version. number ≡ version_number (spelling version)) }
     {

@@ -36,17 +36,17 @@ pub struct Declaration<'a> {
     pub thing: Thing,
 }
 
-// Where in the text of a declaration a word stands.
+// Where in the text of a declaration a word is.
 #[derive(Clone, Copy)]
 enum Spot {
     Elsewhere,
-    // Behind the keyword.
+    // After the keyword.
     CownName,
     DefName,
     LocalName,
-    // Behind the name of a cown.
+    // After the name of a cown.
     Size,
-    // In front of the semicolon of a def's parameters, and behind it.
+    // Before the semicolon of a def's parameters, and after it.
     Parameters,
     CownParameters,
 }
@@ -80,7 +80,7 @@ pub fn top_names<'a>(
     Ok(names)
 }
 
-// What is declared, as a word that follows its name tells.
+// What is declared, as a word that follows its name reports.
 fn grown(thing: Thing, spot: Spot, word: &Word<'_>) -> Thing {
     match (spot, thing) {
         (Spot::Size, Thing::Cown) if word.is(b"[") => Thing::Array,
@@ -96,7 +96,7 @@ fn grown(thing: Thing, spot: Spot, word: &Word<'_>) -> Thing {
     }
 }
 
-// Where the word behind this one stands.
+// Where the word after this one is.
 fn next_spot(spot: Spot, word: &Word<'_>) -> Spot {
     match spot {
         Spot::CownName => Spot::Size,
@@ -113,7 +113,7 @@ fn next_spot(spot: Spot, word: &Word<'_>) -> Spot {
     }
 }
 
-/// The parameters and locals of the body in which a place stands, also those behind the place.
+/// The parameters and locals of the body in which a place is, also those after the place.
 pub fn body_names<'a>(
     alloc: Global,
     words: &[Word<'a>],
@@ -143,7 +143,7 @@ pub fn body_names<'a>(
     Ok(names)
 }
 
-/// The first declaration of a name, but for one at this place.
+/// The first declaration of a name, except one at this place.
 pub fn declared_as<'a>(
     names: &[Declaration<'a>],
     name: &[u8],

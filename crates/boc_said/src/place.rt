@@ -1,7 +1,6 @@
 // Which text a fault is in.
 
 use crate::said::{Part, Said};
-use crate::view::first_line;
 use std::alloc::AllocError;
 
 /// The bytes of a text, as far as they were kept.
@@ -14,14 +13,14 @@ pub struct Text<'a> {
     pub name: Option<&'a str>,
 }
 
-/// The file beside an input.
+/// The file next to an input.
 #[derive(Clone, Copy, PartialEq, Eq, Debug)]
 pub enum Beside {
-    /// A program, behind `--program`: the input is the record of a run of it.
+    /// A program, after `--program`: the input is the record of a run of it.
     Program,
-    /// A record, behind `--record`: it is of a run of the input.
+    /// A record, after `--record`: it is of a run of the input.
     Record,
-    /// Names, behind `--names`.
+    /// Names, after `--names`.
     Names,
 }
 
@@ -30,7 +29,7 @@ pub enum Beside {
 pub struct Place<'a> {
     /// The command that reads it.
     pub command: &'a str,
-    /// The file beside the input, where there is one.
+    /// The file next to the input, where there is one.
     pub beside: Option<Beside>,
     /// The text is that of this file, and not the input.
     pub is_beside: bool,
@@ -45,8 +44,8 @@ impl Place<'_> {
     }
 }
 
-/// Where a command reads a program and its record from, where the program, or else the record, comes from the file beside the input: the words behind
-/// the command's name, each of the two times that it is told.
+/// Returns the words after a command's name that say where its program and its record come from: as a sentence, and as an example. The program, or else the
+/// record, is in the file next to the input.
 pub fn pair_words(beside_is_program: bool) -> (&'static str, &'static str) {
     if beside_is_program {
         (
@@ -61,15 +60,6 @@ pub fn pair_words(beside_is_program: bool) -> (&'static str, &'static str) {
     }
 }
 
-// What is written before a command: `boc`, unless it is one of `boc-view`, which begins with that name.
-fn program_of(command: &str) -> &'static str {
-    if command.as_bytes().starts_with(b"boc-view") {
-        ""
-    } else {
-        "boc "
-    }
-}
-
 /// Appends which of a program and its record goes where, for a text that looks like the other one.
 pub fn put_pair<'a>(
     said: &mut Said,
@@ -78,61 +68,54 @@ pub fn put_pair<'a>(
     wanted: &'a str,
     swapped: bool,
 ) -> Result<(), AllocError> {
-    let (both, words) = pair_words(matches!(place.beside, Some(Beside::Program)));
-    said.line(&[
-        Part::Words("this looks like a "),
-        Part::Words(found),
-        Part::Words("; "),
-        Part::Words(place.command),
-        Part::Words(both),
-        Part::Words(program_of(place.command)),
-        Part::Words(place.command),
-        Part::Words(words),
-    ])?;
-    if !swapped {
-        return Ok(());
+    let (reads, takes) = pair_words(matches!(place.beside, Some(Beside::Program)));
+    // The commands of `boc-view` begin with its name.
+    let is_of_view = place.command.as_bytes().starts_with(b"boc-view");
+    let program = if is_of_view { "" } else { "boc " };
+    said.tell(
+        "this looks like a {}; {}{}{}{}{}",
+        &[
+            Part::Words(found),
+            Part::Words(place.command),
+            Part::Words(reads),
+            Part::Words(program),
+            Part::Words(place.command),
+            Part::Words(takes),
+        ],
+    )?;
+    if swapped {
+        let words = "the other file looks like a {}: swap the two";
+        said.tell(words, &[Part::Words(wanted)])?;
     }
-    said.line(&[
-        Part::Words("the other file looks like a "),
-        Part::Words(wanted),
-        Part::Words(": swap the two"),
-    ])
+    Ok(())
 }
 
-/// A text begins as that of a record does.
+/// Returns whether a text begins as that of a record does.
 pub fn looks_like_record(text: &[u8]) -> bool {
     matches!(text, [b'b', b'o', b'c', b' ', b'0'..=b'9', ..])
 }
 
-/// A line of a text is that of a start: a record has one for each of its rows, and hardly any program.
+/// Returns whether a line of a text is that of a start: a record has one for each of its rows, and hardly any program.
 pub fn has_start(text: &[u8]) -> bool {
     text.split(|byte| *byte == b'\n').any(|line| match line {
-        [b'>', b' ', row @ ..] => is_number(first_line(row)),
+        [b'>', b' ', row @ .., b'\r'] | [b'>', b' ', row @ ..] => {
+            !row.is_empty() && row.iter().all(|byte| byte.is_ascii_digit())
+        }
         _ => false,
     })
 }
 
-// A word has digits, and nothing else.
-fn is_number(word: &[u8]) -> bool {
-    !word.is_empty() && word.iter().all(|byte| byte.is_ascii_digit())
-}
-
-/// The first line that says something is one of a program, a comment or its first declaration, and none is that of a start.
+/// Returns whether the first line that says something is one of a program, a comment or its first declaration, and none is that of a start.
 pub fn looks_like_program(text: &[u8]) -> bool {
-    if has_start(text) {
-        return false;
-    }
-    let first = text
-        .split(|byte| matches!(*byte, b'\n' | b'\r' | b' ' | b'\t'))
-        .find(|word| !word.is_empty());
-    match first {
-        Some([b'#', ..]) => true,
-        Some(word) => is_first_word(word),
-        None => false,
-    }
+    let mut words = text.split(|byte| matches!(*byte, b'\n' | b'\r' | b' ' | b'\t'));
+    let is_first = |word: &&[u8]| !word.is_empty();
+    !has_start(text)
+        && words
+            .find(is_first)
+            .is_some_and(|word| word.starts_with(b"#") || is_first_word(word))
 }
 
-/// The first line that says something is one of a names file.
+/// Returns whether the first line that says something is one of a names file.
 pub fn looks_like_names(text: &[u8]) -> bool {
     let first = text
         .split(|byte| matches!(*byte, b'\n' | b'\r'))
@@ -140,15 +123,13 @@ pub fn looks_like_names(text: &[u8]) -> bool {
     matches!(first, Some([b'@' | b'=', b' ', b'0'..=b'9', ..]))
 }
 
-/// A declaration of a program begins with this word.
+/// Returns whether a declaration of a program begins with this word.
 pub fn is_first_word(word: &[u8]) -> bool {
-    word == b"cown".as_slice()
-        || word == b"def".as_slice()
-        || word == b"main".as_slice()
-        || word == b"main{".as_slice()
+    let words: [&[u8]; 4] = [b"cown", b"def", b"main", b"main{"];
+    words.iter().any(|first| *first == word)
 }
 
-/// Tells that a text has no bytes.
+/// Reports that a text has no bytes.
 pub fn put_nothing(said: &mut Said, text: Text<'_>) -> Result<(), AllocError> {
     said.words(if text.name.is_some() {
         "the file is empty"
@@ -157,7 +138,7 @@ pub fn put_nothing(said: &mut Said, text: Text<'_>) -> Result<(), AllocError> {
     })
 }
 
-/// Tells that names stand where a program or a record is wanted.
+/// Reports that names stand where a program or a record is wanted.
 pub fn put_names_file(said: &mut Said) -> Result<(), AllocError> {
     said.words(
         "this looks like a names file; pass it with --names, and a program or a record as FILE",

@@ -1,24 +1,26 @@
 // The lines of an explanation as they are formed.
 
-use crate::place::Text;
+ghost use Rattle.std.specs.Prelude.{◌≡◌, [], All, IfOk, OnOk, string_bytes};
+ghost use Rattle.std.specs.Option.{option_copied};
+ghost use Rattle.boc_said.specs.Lines.{IsPrintable, IsShort, IsHeaded, AreLines, AreLinesOf};
+ghost use Rattle.boc_said.specs.declared.said.TheConstants.{MOST_WIDTH};
+
 use itoa::Buffer;
 use std::alloc::{AllocError, Global};
-use std::mem;
+use std::marker::Model;
 
-// Each line begins with this, except one that names a file.
+// Each line begins with this, except one that begins with the name of a file.
 const INDENT: &str = "     ";
 
-// A message that follows a place on its line keeps one blank of its indent.
-const REST_OF_INDENT: &str = "    ";
+// The most bytes of a line, and of one after its indent.
+const MOST_LINE: usize = 160;
 
-// The most bytes of a line that has both, with its line feed.
-const MOST_FED: usize = 161;
-
-// The most bytes of a line behind its indent, without its line feed.
 const MOST_WIDTH: usize = 155;
 
 /// The most bytes of a text that are shown in quotes.
 pub const MOST_QUOTE: usize = 64;
+
+const DIGITS: &[u8] = b"0123456789ABCDEF";
 
 /// A part of a line.
 #[derive(Clone, Copy)]
@@ -37,153 +39,244 @@ pub enum Part<'a> {
     Bytes(&'a [u8]),
 }
 
-/// The lines so far.
+// How a byte is shown: a tab outside quotes as a blank, and any other that can't be printed as `?`.
+fn shown(byte: u8, is_quoted: bool) -> char
+    ensures { IsPrintable result }
+{
+    match byte {
+        b'\t' if !is_quoted => ' ',
+        0x20..0x7f => char::from(byte),
+        _ => '?',
+    }
+}
+
+// Appends bytes as they are shown, as far as there is space for them.
+fn put(line: &mut String, bytes: &[u8], is_quoted: bool) -> Result<(), AllocError>
+    requires { IsShort MOST_WIDTH (string_bytes line.old) }
+    ensures { IsShort MOST_WIDTH (string_bytes line.new) }
+{
+    for byte in bytes {
+        if line.len() < MOST_WIDTH {
+            line.push(shown(*byte, is_quoted))?;
+        }
+    }
+    Ok(())
+}
+
+// Appends a part of a line, as far as there is space for it.
+fn put_part(line: &mut String, part: Part<'_>) -> Result<(), AllocError>
+    requires { IsShort MOST_WIDTH (string_bytes line.old) }
+    ensures { IsShort MOST_WIDTH (string_bytes line.new) }
+{
+    match part {
+        Part::Words(words) => put(line, words.as_bytes(), false),
+        Part::Number(number) => put(line, Buffer::new().format(number).as_bytes(), false),
+        Part::Hex(byte) => {
+            let (high, low) = (usize::from(byte >> 4), usize::from(byte & 15));
+            put(line, b"0x", false)?;
+            put(line, &[DIGITS[high], DIGITS[low]], false)
+        }
+        Part::Many(number, name) => {
+            put(line, Buffer::new().format(number).as_bytes(), false)?;
+            put(line, b" ", false)?;
+            put(line, name.as_bytes(), false)?;
+            put(line, if number == 1 { b"" } else { b"s" }, false)
+        }
+        Part::Quote(bytes) => {
+            put(line, b"`", false)?;
+            put(line, &bytes[..bytes.len().min(MOST_QUOTE)], true)?;
+            put(
+                line,
+                if bytes.len() > MOST_QUOTE {
+                    b"..`"
+                } else {
+                    b"`"
+                },
+                false,
+            )
+        }
+        Part::Bytes(bytes) => put(line, bytes, false),
+    }
+}
+
+// A line without its indent that begins so: the words, with a part instead of each `{}`, and the parts that are left after them. What doesn't fit is
+// left out.
+fn formed(alloc: Global, begin: &str, words: &str, parts: &[Part<'_>]) -> Result<String, AllocError>
+    requires { IsShort MOST_WIDTH begin.now }
+    ensures { IfOk result (λ line. IsShort MOST_WIDTH (string_bytes line)) }
+{
+    let mut line = String::from_str(alloc, begin)?;
+    let mut parts = parts.iter();
+    for piece in words.split("{}") {
+        put(&mut line, piece.as_bytes(), false)?;
+        if let Some(part) = parts.next() {
+            put_part(&mut line, *part)?;
+        }
+    }
+    for part in parts {
+        put_part(&mut line, *part)?;
+    }
+    Ok(line)
+}
+
+// Appends lines to a text, each after its indent.
+fn put_lines(text: &mut String, lines: &[String]) -> Result<(), AllocError>
+    requires lines { All (λ l. IsShort MOST_WIDTH (string_bytes l)) lines.now }
+    requires text { AreLines (string_bytes text.old) }
+    ensures { OnOk result (AreLines (string_bytes text.new)) }
+{
+    for line in lines {
+        put_line(text, line)?;
+    }
+    Ok(())
+}
+
+// Appends a line to a text, after its indent.
+fn put_line(text: &mut String, line: &str) -> Result<(), AllocError>
+    requires line { IsShort MOST_WIDTH line.now }
+    requires text { AreLines (string_bytes text.old) }
+    ensures { OnOk result (AreLines (string_bytes text.new)) }
+{
+    text.push_str(INDENT)?;
+    text.push_str(line)?;
+    text.push_str("\n")?;
+    Ok(())
+}
+
+// The first message of a file with this name, after the place of its fault; on the next line where both together are too long.
+fn headed(alloc: Global, name: &str, place: &str, message: &str) -> Result<String, AllocError>
+    requires place { IsShort MOST_WIDTH place.now }
+    requires message { IsShort MOST_WIDTH message.now }
+    ensures { IfOk result (λ text. IsHeaded name.now (string_bytes text)) }
+{
+    let mut text = String::from_str(alloc, name)?;
+    text.push_str(place)?;
+    let size = name.len().saturating_add(place.len() + 1 + message.len());
+    text.push_str(if size > MOST_LINE { "\n     " } else { " " })?;
+    text.push_str(message)?;
+    text.push_str("\n")?;
+    Ok(text)
+}
+
+/// The lines so far. Each is printable ASCII, and has at most 160 bytes with its indent.
 #[derive(Drop)]
 pub struct Said {
     alloc: Global,
-    text: String,
-    // How many more bytes the last line takes.
-    room: usize,
-    // The name of the file with the fault, if it is known, until a line has it.
-    name: Option<String>,
-    /// The line and the column of the fault in that file, both counted from 1.
-    pub place: (u64, usize),
+    // The lines without their indents, and which of them is the first message.
+    lines: Vec<String>,
+    first: Option<usize>,
+    // The line and the column of the fault in its file, both counted from 1.
+    place: (u64, u64),
+    // What lines about the subject begin with.
+    subject: String,
+}
+
+impl Model for Said {
+    ghost use Rattle.std.specs.Prelude.{List, ℕ, All, map, string_bytes};
+    ghost use Rattle.boc_said.specs.Lines.{IsShort};
+    ghost use Rattle.boc_said.specs.declared.said.TheConstants.{MOST_WIDTH};
+
+    ghost Value = { List (List ℕ) };
+
+    ghost view = { λ s. map string_bytes s.lines.items };
+
+    ghost invariant = { λ s. All (λ l. IsShort MOST_WIDTH (string_bytes l)) s.lines.items × IsShort MOST_WIDTH (string_bytes s.subject) };
 }
 
 impl Said {
-    /// No lines yet, of a fault that is in no file.
-    pub fn new(alloc: Global) -> Said {
+    /// Returns no lines yet, of a fault on the first line of a text.
+    pub fn new(alloc: Global) -> Said
+        ensures { result ≡ [] }
+    {
         Said {
             alloc,
-            text: String::new(alloc),
-            room: 0,
-            name: None,
+            lines: Vec::new(alloc),
+            first: None,
             place: (1, 1),
+            subject: String::new(alloc),
         }
     }
 
-    /// No lines yet, of a fault on this line of a text.
-    pub fn of(alloc: Global, text: Text<'_>, line: u64) -> Result<Said, AllocError> {
-        let mut said = Said::new(alloc);
-        said.place = (line, 1);
-        if let Some(name) = text.name {
-            said.name = Some(String::from_str(alloc, name)?);
-        }
-        Ok(said)
+    /// Sets the place of the fault in its file: the line and the column, both counted from 1.
+    pub fn set_place(&mut self, line: u64, column: usize)
+        ensures { self.new ≡ self.old }
+    {
+        self.place = (line, column as u64);
     }
 
-    /// The lines, each with its line feed.
-    pub fn into_text(self) -> String {
-        self.text
+    /// Sets the column of the fault in its line.
+    pub fn set_column(&mut self, column: usize)
+        ensures { self.new ≡ self.old }
+    {
+        self.place.1 = column as u64;
+    }
+
+    /// Sets what the lines are about: a faulty line or word.
+    pub fn set_subject(&mut self, subject: &[u8]) -> Result<(), AllocError> {
+        self.subject = formed(self.alloc, "", "{}: ", &[Part::Quote(subject)])?;
+        Ok(())
+    }
+
+    /// Appends a line about the subject, which it begins with, as `tell` does.
+    pub fn about(&mut self, words: &str, parts: &[Part<'_>]) -> Result<(), AllocError> {
+        let line = formed(self.alloc, &self.subject, words, parts)?;
+        self.message(line)
     }
 
     /// Appends a line of these parts. The first one of a named file comes before the lines that are shown of it, and begins with its place there.
     pub fn line(&mut self, parts: &[Part<'_>]) -> Result<(), AllocError> {
-        let Some(name) = self.name.take() else {
-            return self.shown(parts);
-        };
-        let shown = mem::replace(&mut self.text, String::new(self.alloc));
-        self.shown(parts)?;
-        let (line, column) = self.place;
-        let head = format!(in self.alloc; "{name}:{line}:{column}:")?;
-        let message = mem::replace(&mut self.text, head);
-        match message.strip_prefix(REST_OF_INDENT) {
-            Some(rest) if self.text.len().saturating_add(rest.len()) <= MOST_FED => {
-                self.text.push_str(rest)?;
-            }
-            _ => {
-                self.text.push('\n')?;
-                self.text.push_str(&message)?;
-            }
-        }
-        self.text.push_str(&shown)
+        self.tell("", parts)
     }
 
     /// Appends a line of these words, as `line` does.
     pub fn words(&mut self, words: &str) -> Result<(), AllocError> {
-        self.line(&[Part::Words(words)])
+        self.tell("", &[Part::Words(words)])
+    }
+
+    /// Appends a line of these words, with a part instead of each `{}`, and the parts that are left after them, as `line` does.
+    pub fn tell(&mut self, words: &str, parts: &[Part<'_>]) -> Result<(), AllocError> {
+        let line = formed(self.alloc, "", words, parts)?;
+        self.message(line)
+    }
+
+    // Appends a line that is a message.
+    fn message(&mut self, line: String) -> Result<(), AllocError>
+        requires { IsShort MOST_WIDTH (string_bytes line) }
+    {
+        if self.first.is_none() {
+            self.first = Some(self.lines.len());
+        }
+        self.lines.push(line)?;
+        Ok(())
     }
 
     /// Appends a line of these parts, which shows a text. What doesn't fit in a line is left out.
     pub fn shown(&mut self, parts: &[Part<'_>]) -> Result<(), AllocError> {
-        self.text.push_str(INDENT)?;
-        self.room = MOST_WIDTH;
-        for part in parts {
-            self.part(*part)?;
-        }
-        self.text.push('\n')
-    }
-
-    fn part(&mut self, part: Part<'_>) -> Result<(), AllocError> {
-        match part {
-            Part::Words(words) => self.bytes(words.as_bytes()),
-            Part::Number(number) => self.bytes(Buffer::new().format(number).as_bytes()),
-            Part::Hex(byte) => self.hex(byte),
-            Part::Many(number, name) => self.many(number, name),
-            Part::Quote(bytes) => self.quote(bytes),
-            Part::Bytes(bytes) => self.bytes(bytes),
-        }
-    }
-
-    fn hex(&mut self, byte: u8) -> Result<(), AllocError> {
-        self.bytes(b"0x")?;
-        self.byte(hex_digit(byte >> 4))?;
-        self.byte(hex_digit(byte & 15))
-    }
-
-    // Puts a number and what it counts, with an `s` but for one.
-    fn many(&mut self, number: u64, name: &str) -> Result<(), AllocError> {
-        self.bytes(Buffer::new().format(number).as_bytes())?;
-        self.byte(b' ')?;
-        self.bytes(name.as_bytes())?;
-        if number != 1 {
-            self.byte(b's')?;
-        }
+        let line = formed(self.alloc, "", "", parts)?;
+        self.lines.push(line)?;
         Ok(())
     }
 
-    // Puts bytes in quotes, two dots in place of those that are too many.
-    fn quote(&mut self, bytes: &[u8]) -> Result<(), AllocError> {
-        self.byte(b'`')?;
-        for byte in bytes.iter().take(MOST_QUOTE) {
-            self.byte(if *byte == b'\t' { b'?' } else { *byte })?;
-        }
-        if bytes.len() > MOST_QUOTE {
-            self.bytes(b"..")?;
-        }
-        self.byte(b'`')
-    }
-
-    fn bytes(&mut self, bytes: &[u8]) -> Result<(), AllocError> {
-        for byte in bytes {
-            self.byte(*byte)?;
-        }
-        Ok(())
-    }
-
-    // Puts a byte as it is shown, if there is room for it.
-    fn byte(&mut self, byte: u8) -> Result<(), AllocError> {
-        if self.room == 0 {
-            return Ok(());
-        }
-        self.room -= 1;
-        self.text.push(shown(byte))
-    }
-}
-
-// The hexadecimal digit of a number below 16.
-fn hex_digit(number: u8) -> u8 {
-    match number {
-        0..10 => b'0'.saturating_add(number),
-        _ => b'A'.saturating_add(number.saturating_sub(10)),
-    }
-}
-
-// How a byte is shown outside quotes: a tab as a blank, and what can't be printed as `?`.
-fn shown(byte: u8) -> char {
-    match byte {
-        b'\t' => ' ',
-        0x20..0x7f => char::from(byte),
-        _ => '?',
+    /// Returns the lines, each with its line feed. Where the file with the fault has a name, the first message begins with it.
+    pub fn into_text(self, name: Option<&str>) -> Result<String, AllocError>
+        ensures { IfOk result (λ text. AreLinesOf (option_copied name.entry) (string_bytes text)) }
+    {
+        let mut rest = String::new(self.alloc);
+        let (Some(name), Some(first)) = (name, self.first) else {
+            put_lines(&mut rest, &self.lines)?;
+            return Ok(rest);
+        };
+        let (before, others) = self.lines.split_at(first.min(self.lines.len()));
+        put_lines(&mut rest, before)?;
+        let Some((message, behind)) = others.split_first() else {
+            return Ok(rest);
+        };
+        put_lines(&mut rest, behind)?;
+        let (line, column) = self.place;
+        let parts = [Part::Number(line), Part::Number(column)];
+        let place = formed(self.alloc, "", ":{}:{}:", &parts)?;
+        let mut text = headed(self.alloc, name, &place, message)?;
+        text.push_str(&rest)?;
+        Ok(text)
     }
 }

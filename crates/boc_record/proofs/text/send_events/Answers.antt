@@ -1,4 +1,4 @@
-use Rattle.std.proofs.Common.{ℕ, List, ◌++◌, ◌∙◌, take, drop, append_assoc, length-drop, refl, ap, subst, arith, rules}
+use Rattle.std.proofs.Common.{ℕ, List, ◌++◌, ◌∙◌, take, drop, append_assoc, length-drop, ap, subst, arith, rules}
 use Rattle.std.proofs.lemmas.List.{take_all}
 use Rattle.boc_text.specs.Streams.{StopsAt}
 use Rattle.boc_record.specs.RecordTexts.{Second, event_lines}

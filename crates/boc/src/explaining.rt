@@ -1,4 +1,4 @@
-//! What is told below the line of a fault.
+//! What is reported below the line of a fault.
 
 use boc_commands::{
     AskedCown, AskedEdit, Command, Fault, InputFault, NamesFrom, RunFile, Schedule, WordsFault,
@@ -25,11 +25,11 @@ const COMMANDS: [&str; 12] = [
 pub(crate) struct Texts {
     /// The input.
     pub input: Kept,
-    /// The file beside it.
+    /// The file given with it.
     pub beside: Kept,
 }
 
-/// The lines below the text of a fault of these words, each with its line feed. There may be none.
+/// Returns the lines below the text of a fault of these words, each with its line feed. There may be none.
 pub(crate) fn explained_words(
     alloc: Global,
     words: &[String],
@@ -45,7 +45,7 @@ pub(crate) fn explained_words(
     }
 }
 
-/// The lines below that of a fault, each with its line feed. There may be none. The input comes from the file with this path, if there is one.
+/// Returns the lines below that of a fault, each with its line feed. There may be none. The input comes from the file with this path, if there is one.
 pub(crate) fn explained(
     alloc: Global,
     fault: &Fault,
@@ -67,7 +67,7 @@ pub(crate) fn explained(
     }
 }
 
-// How a command draws runs, if it does so at a depth.
+// Returns how a command draws runs, if it does so at a depth.
 fn depth_of(command: &Command) -> Option<AtDepth> {
     match command {
         Command::Run { schedule, .. } | Command::Time { schedule, .. } => drawn_at_depth(schedule),
@@ -82,7 +82,7 @@ fn depth_of(command: &Command) -> Option<AtDepth> {
     }
 }
 
-// What a command reads, its input from the file with this path, if there is one.
+// Returns what a command reads, its input from the file with this path, if there is one.
 fn sources_of<'a>(command: &'a Command, path: Option<&'a String>, texts: &'a Texts) -> Sources<'a> {
     Sources {
         command: name_of(command),
@@ -94,7 +94,7 @@ fn sources_of<'a>(command: &'a Command, path: Option<&'a String>, texts: &'a Tex
     }
 }
 
-/// What the file beside the input of a command is, if it has one.
+/// Returns what the file given with the input of a command is, if it has one.
 pub(crate) fn beside_of(command: &Command) -> Option<Beside> {
     match command {
         Command::Check { program: Some(_) }
@@ -122,7 +122,7 @@ pub(crate) fn beside_of(command: &Command) -> Option<Beside> {
     }
 }
 
-// By what `whatif` calls rows and cowns, if all of the file that tells it is known.
+// By what `whatif` calls rows and cowns, if all of the file that says it is known.
 fn naming_of<'a>(names: &Option<NamesFrom>, texts: &'a Texts) -> Option<Naming<'a>> {
     if !texts.beside.is_whole() {
         return None;
@@ -134,7 +134,7 @@ fn naming_of<'a>(names: &Option<NamesFrom>, texts: &'a Texts) -> Option<Naming<'
     })
 }
 
-// A cown that the record doesn't have, counted from 1.
+// Returns a cown that the record doesn't have, counted from 1.
 fn missing_cown(
     alloc: Global,
     command: &Command,
@@ -156,7 +156,7 @@ fn missing_cown(
     }
 }
 
-// An edit that the rows can't take, counted from 1.
+// Returns an edit that the rows can't take, counted from 1.
 fn refused_edit(
     alloc: Global,
     command: &Command,
@@ -178,7 +178,7 @@ fn refused_edit(
     explain_edit(alloc, texts.input.text(None), naming, &word, &asked, fault)
 }
 
-// So many of the first edits that words ask for.
+// Returns this many of the first edits that words ask for.
 fn asked_edits(alloc: Global, edits: &[AskedEdit], count: usize) -> Result<Vec<Asked>, AllocError> {
     let mut asked = Vec::new(alloc);
     for edit in edits.iter().take(count) {
@@ -193,7 +193,7 @@ fn asked_edits(alloc: Global, edits: &[AskedEdit], count: usize) -> Result<Vec<A
     Ok(asked)
 }
 
-// The word of an edit.
+// Returns the word of an edit.
 fn word_of(alloc: Global, edit: &AskedEdit) -> Result<String, AllocError> {
     match edit {
         AskedEdit::Row(edit) => row_word(alloc, edit),
@@ -201,7 +201,7 @@ fn word_of(alloc: Global, edit: &AskedEdit) -> Result<String, AllocError> {
     }
 }
 
-// The word of an edit of a row.
+// Returns the word of an edit of a row.
 fn row_word(alloc: Global, edit: &Edit) -> Result<String, AllocError> {
     let row = edit.row;
     match edit.change {
@@ -214,14 +214,14 @@ fn row_word(alloc: Global, edit: &Edit) -> Result<String, AllocError> {
     }
 }
 
-// The word of an edit that has a row or a def cost a part of what it did.
+// Returns the word of an edit that has a row or a def cost a part of what it did.
 fn cost_word(alloc: Global, subject: &str, part: Part) -> Result<String, AllocError> {
     let over = part.over();
     let under = part.under();
     format!(in alloc; "{subject}={over}/{under}")
 }
 
-// An edit of a def that no row is of, counted from 1.
+// Returns an edit of a def that no row is of, counted from 1.
 fn missing_def(
     alloc: Global,
     command: &Command,
@@ -239,7 +239,7 @@ fn missing_def(
     }
 }
 
-// The word of a command.
+// Returns the word of a command.
 fn name_of(command: &Command) -> &'static str {
     match command {
         Command::Values { .. } => "values",

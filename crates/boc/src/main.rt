@@ -9,7 +9,7 @@ use boc_commands::{
 };
 use boc_explain::{Input, Kept};
 use boc_front::{
-    Given, MOST_INPUT, Meter, STACK, Watch, idle_note, printed, printed_words, read_beside,
+    Given, MOST_INPUT, Meter, STACK, Stop, Watch, ended, idle_note, printed_words, read_beside,
     words_given,
 };
 use boc_text::Counted;
@@ -20,74 +20,16 @@ use std::process::ExitCode;
 use std::sync::Wait;
 use std::thread::{Builder, Threads};
 
-// The status where a file can't be read, as where a device fails.
-const NO_FILE: u8 = 5;
-
-// Why not all was done that the words ask for.
-#[derive(Drop)]
-enum Stop {
-    // The command was refused, or it failed. Lines may follow that explain it.
-    Fault {
-        fault: Fault,
-        more: Option<String>,
-    },
-    // A file that the words name can't be read. Its path stands as it is told, and a line may follow that tells why it is one.
-    File {
-        path: String,
-        error: io::Error,
-        more: Option<&'static str>,
-    },
-}
-
-impl From<Fault> for Stop {
-    fn from(fault: Fault) -> Stop {
-        Stop::Fault { fault, more: None }
-    }
-}
-
-impl From<WordsFault> for Stop {
-    fn from(fault: WordsFault) -> Stop {
-        Stop::from(Fault::from(fault))
-    }
-}
-
-impl From<AllocError> for Stop {
-    fn from(error: AllocError) -> Stop {
-        Stop::from(Fault::from(error))
-    }
-}
-
-impl Stop {
-    // The status of the program.
-    fn status(&self) -> u8 {
-        match self {
-            Stop::Fault { fault, .. } => fault.status(),
-            Stop::File { .. } => NO_FILE,
-        }
-    }
-}
-
 // All work is done on one thread, whose stack is as large as it has to be wherever the program is started.
 fn main(rt: HostRuntime) -> ExitCode {
     let working = Builder::new()
         .stack_size(STACK)
-        .spawn(&rt, move || ended(rt, run(rt, &rt)));
+        .spawn(&rt, move || ended(rt, "boc", run(rt, &rt)));
     let status = match working {
         Ok(thread) => thread.join(&rt),
-        Err(_) => ended(rt, Err(Stop::from(AllocError))),
+        Err(_) => ended(rt, "boc", Err(Stop::from(AllocError))),
     };
     ExitCode::from(status)
-}
-
-// The status of the program. Why not all was done is told.
-fn ended(rt: HostRuntime, done: Result<(), Stop>) -> u8 {
-    match done {
-        Ok(()) => 0,
-        Err(stop) => {
-            tell(rt, &stop);
-            stop.status()
-        }
-    }
 }
 
 // Does what the words ask for. What runs in several threads is started by way of `threads`.
@@ -152,7 +94,7 @@ fn answer<T: Read + Drop>(
     Err(Stop::Fault { fault, more })
 }
 
-// The note on words that say how a program is run, and nothing of what the command did; no text where there is nothing to note.
+// Returns the note on words that say how a program is run, and nothing of what the command did; no text where there is nothing to note.
 fn note_of(command: &Command, given: Given, is_record: bool) -> &'static str {
     match command {
         Command::Run {
@@ -182,12 +124,12 @@ fn note_of(command: &Command, given: Given, is_record: bool) -> &'static str {
     }
 }
 
-// Writes notes, as those on behaviours that ended by a fault, to standard error. There is nobody to tell that this failed.
+// Writes notes, as those on behaviours that ended by a fault, to standard error. A failure of this is ignored.
 fn note(rt: HostRuntime, notes: &[u8]) {
     let _ = rt.stderr().write_all(notes);
 }
 
-// The bytes of the file that a command names beside its input, as many as can matter, and no bytes where it names none.
+// Returns the bytes of the file that a command names with its input, as many as can matter, and no bytes where it names none.
 fn file_beside(rt: HostRuntime, command: &Command) -> Result<Vec<u8>, Stop> {
     match (file_named(command), beside_of(command)) {
         (Some(path), Some(kind)) => {
@@ -197,7 +139,7 @@ fn file_beside(rt: HostRuntime, command: &Command) -> Result<Vec<u8>, Stop> {
     }
 }
 
-// Why not all was done where the words are refused. They are refused as they are told, since the parser's text has words in it.
+// Returns why not all was done where the words are refused. They are refused as they are printed, since the parser's text has words in it.
 fn words_stop<T>(rt: HostRuntime, words: &[String], fault: WordsFault) -> Result<T, Stop> {
     let words = printed_words(rt.alloc(), words)?;
     let fault = Fault::from(read_words(rt.alloc(), &words).err().unwrap_or(fault));
@@ -205,47 +147,20 @@ fn words_stop<T>(rt: HostRuntime, words: &[String], fault: WordsFault) -> Result
     Err(Stop::Fault { fault, more })
 }
 
-// What is told of a file that isn't there, where its word may have been meant as an edit.
+// What is reported of a file that isn't there, where its word may have been meant as an edit.
 const WHICH_FILE: &str =
     "     a word with neither = nor @ is the FILE with the record; an edit is ROW=TICKS, ROW@OFFSET, ROW=K/D or DEF=K/D";
 
-// Why a file with this path can't be read: that with the input of a command, if one is given.
+// Returns why a file with this path can't be read: that with the input of a command, if one is given.
 fn file_stop<T>(
     rt: HostRuntime,
     path: &str,
     error: io::Error,
     reader: Option<&Command>,
 ) -> Result<T, Stop> {
-    let kind = error.kind();
-    if kind == io::ErrorKind::OutOfMemory {
-        return Err(Stop::from(Fault::Means(Want::Memory)));
-    }
     let more = match reader {
-        Some(Command::WhatIf { .. }) if kind == io::ErrorKind::NotFound => Some(WHICH_FILE),
+        Some(Command::WhatIf { .. }) if error.kind() == io::ErrorKind::NotFound => Some(WHICH_FILE),
         _ => None,
     };
-    let path = printed(rt.alloc(), path)?;
-    Err(Stop::File { path, error, more })
-}
-
-// Writes to standard error why not all was done. There is nobody to tell that this failed.
-fn tell(rt: HostRuntime, stop: &Stop) {
-    match stop {
-        Stop::File { path, error, more } => {
-            let _ = eprintln!(rt; "boc: {path}: {error}");
-            if let Some(more) = more {
-                let _ = eprintln!(rt; "{more}");
-            }
-        }
-        Stop::Fault { fault, more } => {
-            let _ = match fault.own_line() {
-                Some(line) => eprintln!(rt; "{line}"),
-                // The parser's text ends its own lines.
-                None => eprint!(rt; "{fault}"),
-            };
-            if let Some(more) = more {
-                let _ = eprint!(rt; "{more}");
-            }
-        }
-    }
+    Err(Stop::of_file(rt, path, error, more))
 }

@@ -1,4 +1,4 @@
-// How many bytes of an input can matter, or of a file beside it.
+// How many bytes of an input can matter, or of a file given with it.
 
 use boc_names::MOST_NAMES;
 use boc_program::limits::{MOST_ROWS, MOST_TEXT};
@@ -13,14 +13,14 @@ const MOST_FED: usize = MOST_LINE + 1;
 // The most bytes of a record: its first line, the spawn, the start and the end of each row, and its last line.
 const MOST_RECORD: usize = (3 * MOST_ROWS + 2) * MOST_FED;
 
-/// How many bytes of an input can matter: of a record, since it may be longer than a program. Whatever stands behind them, the answer is the same.
+/// How many bytes of an input can matter: of a record, since it may be longer than a program. Whatever comes after them, the answer is the same.
 ///
-/// In front of a record's first faulty line stand lines that a record may have. So that line stands within as many bytes as a record may have, up to its
-/// line feed or its 81st byte, or it begins right behind them, and its first byte is too much.
+/// Before a record's first faulty line are lines that a record may have. So that line is within as many bytes as a record may have, up to its
+/// line feed or its 81st byte, or it begins right after them, and its first byte is too much.
 pub const MOST_INPUT: u64 = MOST_RECORD as u64 + 1;
 
-// The same of a file beside an input. A program that has one byte more than it may have is refused for that. The line of names that goes beyond as many
-// bytes as they may have begins within these or right behind them, and tells by 81 bytes what it is.
+// Returns the same of a file given with an input. A program that has one byte more than it may have is refused for that. The line of names that goes beyond as
+// many bytes as they may have begins within these or right after them, and says by 81 bytes what it is.
 fn most_beside(kind: Beside) -> u64 {
     match kind {
         Beside::Program => MOST_TEXT as u64 + 1,
@@ -29,7 +29,7 @@ fn most_beside(kind: Beside) -> u64 {
     }
 }
 
-/// The bytes of the file with this path, as many as can matter where it is read as this: what it has behind them stays unread.
+/// Returns the bytes of the file with this path, as many as can matter where it is read as this: what it has after them stays unread.
 pub fn read_beside<R: Files + AllocGlobal>(
     rt: &R,
     path: &str,

@@ -22,7 +22,7 @@ pub struct Sources<'a> {
 }
 
 impl<'a> Sources<'a> {
-    // Where the input comes from, or the file given with it.
+    // Returns where the input comes from, or the file given with it.
     fn place(self, is_beside: bool) -> Place<'a> {
         let other = if is_beside { self.input } else { self.beside };
         Place {
@@ -34,7 +34,7 @@ impl<'a> Sources<'a> {
     }
 }
 
-/// The lines below that of a fault in an input, or in the file given with it, each with its line feed. There may be none.
+/// Returns the lines below that of a fault in an input, or in the file given with it, each with its line feed. There may be none.
 pub fn explain_input(
     alloc: Global,
     fault: InputFault,
@@ -70,7 +70,7 @@ pub fn explain_input(
     }
 }
 
-// The name of a file with this path, as it is printed.
+// Returns the name of a file with this path, as it is printed.
 fn name_of(alloc: Global, path: Option<&str>) -> Result<Option<String>, AllocError> {
     match path {
         Some(path) => Ok(Some(printed(alloc, path)?)),
@@ -78,7 +78,7 @@ fn name_of(alloc: Global, path: Option<&str>) -> Result<Option<String>, AllocErr
     }
 }
 
-/// How runs are drawn by a schedule, if they are drawn at a depth.
+/// Returns how runs are drawn by a schedule, if they are drawn at a depth.
 pub fn drawn_at_depth(schedule: &Schedule) -> Option<AtDepth> {
     let (workers, depth) = match schedule {
         Schedule::Drawn { workers, depth, .. } => (*workers, *depth),

@@ -6,7 +6,7 @@ use boc_commands::{RunFile, Schedule};
 const OF_RECORD: &str =
     "boc: note: the input is a record, which is not run again: --workers, --seed and --depth have no effect\n";
 
-// What is noted where a record stands beside the program.
+// What is noted where a record is next to the program.
 const OF_FILE: &str =
     "boc: note: the run is that of --record FILE, and the program is not run again: --workers, --seed and --depth have no effect\n";
 
@@ -14,7 +14,7 @@ const OF_FILE: &str =
 const OF_ONE: &str =
     "boc: note: one worker leaves nothing to draw: --seed and --depth have no effect; give --workers at least 2\n";
 
-/// Which of the words that say how a program is run stand on a command line.
+/// Which of the words that say how a program is run are on a command line.
 #[derive(Clone, Copy, PartialEq, Eq, Debug)]
 pub struct Given {
     /// `--workers` or `-w`.
@@ -26,7 +26,7 @@ pub struct Given {
 }
 
 impl Given {
-    /// Those that stand among words that the parser takes, the program's own name first. It takes no value that begins with `-`.
+    /// Returns those that are among words that the parser takes, the program's own name first. It takes no value that begins with `-`.
     pub fn among(words: &[String]) -> Given {
         let mut given = Given {
             workers: false,
@@ -48,7 +48,7 @@ impl Given {
     }
 }
 
-// A word is this option, with its value behind a `=` or without.
+// Returns whether a word is this option, with its value after a `=` or without.
 fn is_option(word: &str, option: &str) -> bool {
     match word.strip_prefix(option) {
         Some(behind) => behind.is_empty() || behind.starts_with("="),
@@ -56,8 +56,8 @@ fn is_option(word: &str, option: &str) -> bool {
     }
 }
 
-/// The note, with its line feed, on words that say how a program is run, where they say nothing of what was done; no text where all that were given say
-/// something of it. The run is by this schedule, or that of a record: the input, or this file beside it.
+/// Returns the note, with its line feed, on words that say how a program is run, where they say nothing of what was done; no text where all that were given say
+/// something of it. The run is by this schedule, or that of a record: the input, or this file given with it.
 pub fn idle_note(
     schedule: Schedule,
     file: &Option<RunFile>,

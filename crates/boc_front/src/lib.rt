@@ -1,5 +1,6 @@
-//! What the programs `boc` and `boc-view` do alike around a command: they take the words of a command line and a file beside an input, tell words and
-//! paths by bytes that are printed, explain a fault of what they read, show how far a command is, and note where words say nothing of what was done.
+//! What the programs `boc` and `boc-view` do alike around a command: they take the words of a command line and a file given with an input, report words and
+//! paths by bytes that are printed, explain a fault of what they read, show how far a command is, note where words say nothing
+//! of what was done, and report why there is no answer.
 #![tactic(auto)]
 
 mod beside;
@@ -7,6 +8,7 @@ mod explaining;
 mod given;
 mod meter;
 mod printing;
+mod stop;
 mod watch;
 mod words;
 
@@ -14,10 +16,10 @@ pub use beside::{MOST_INPUT, read_beside};
 pub use explaining::{Sources, drawn_at_depth, explain_input};
 pub use given::{Given, idle_note};
 pub use meter::Meter;
-pub use printing::{printed, printed_words};
+pub use printing::printed_words;
+pub use stop::{Stop, ended};
 pub use watch::Watch;
 pub use words::words_given;
 
-/// How many bytes of stack a program does its work on, so that none runs out where the system gives the first thread little: what is nested deepest takes
-/// less than 2 MB.
+/// How many bytes of stack a program works on, so that none runs out if the system gives the first thread few. The deepest nesting takes less than 2 MB.
 pub const STACK: usize = 4 * 1024 * 1024;

@@ -54,7 +54,7 @@ impl Meter {
         }
     }
 
-    /// Whether it ever writes a line.
+    /// Returns whether it ever writes a line.
     pub fn is_shown(&self) -> bool {
         self.made.is_some()
     }

@@ -1,8 +1,8 @@
-// Texts from outside, as they are told.
+// Texts from outside, as they are printed.
 
 use std::alloc::{AllocError, Global};
 
-/// A text as it is told: with a `?` for each byte that isn't printable ASCII, since a terminal may do what such bytes ask for.
+/// Returns a text as it is printed: with a `?` for each byte that isn't printable ASCII, since a terminal may do what such bytes ask for.
 pub fn printed(alloc: Global, text: &str) -> Result<String, AllocError> {
     let mut told = String::new(alloc);
     for byte in text.bytes() {
@@ -14,7 +14,7 @@ pub fn printed(alloc: Global, text: &str) -> Result<String, AllocError> {
     Ok(told)
 }
 
-/// The same words, each as it is told.
+/// Returns the same words, each as it is printed.
 pub fn printed_words(alloc: Global, words: &[String]) -> Result<Vec<String>, AllocError> {
     let mut told = Vec::new(alloc);
     for word in words {

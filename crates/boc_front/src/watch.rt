@@ -40,8 +40,8 @@ impl<'r, R: Wait> Watch<'r, R> {
         }
     }
 
-    // Counts what a step did. It stays out of its callers, which look at one flag if nothing is shown. The row that ends last has the line wiped. Others have it
-    // written, unless another thread does so at that time.
+    // Counts what a step did. It stays out of its callers, which look at one flag if nothing is shown. The row that ends last has the line wiped. Others have
+    // it written, unless another thread does so at that time.
     #[inline(never)]
     fn count(&self, step: Step) {
         match step {

@@ -4,7 +4,7 @@ use boc_commands::{WordsFault, not_text};
 use std::env::{self, Env};
 use std::io;
 
-/// The words of the command line, the program's own name first. One that is no text is refused.
+/// Returns the words of the command line, the program's own name first. One that is no text is refused.
 pub fn words_given<R: Env + AllocGlobal>(rt: &R) -> Result<Vec<String>, WordsFault> {
     let args = match env::args(rt) {
         Ok(args) => args,

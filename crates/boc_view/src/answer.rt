@@ -1,4 +1,4 @@
-// The picture that is asked for.
+// The picture that is requested.
 
 ghost use Rattle.std.specs.Prelude.{◌<◌};
 ghost use Rattle.boc_commands.specs.Commands.{CountsSource};
@@ -19,7 +19,8 @@ use std::alloc::{AllocError, Global};
 use std::sync::Wait;
 use std::thread::Threads;
 
-/// The picture of the run that an input tells of, in so many columns where it is a text. The file beside the input, if there is one, has these bytes.
+/// Returns the picture of the run that an input reports on, in the given number of columns where it is a text. The file given with the input, if there is one,
+/// has these bytes.
 ///
 /// An input and a file are refused as `boc why` refuses them. `watch` sees the threads of a run, and `progress` receives how far a draw or the following of a
 /// record is.
@@ -42,7 +43,7 @@ pub(crate) fn pictured<R: Threads + Wait + Sync, S: Source>(
     Ok(drawn(alloc, wanted.picture, &material, width)?)
 }
 
-// The picture that is made of this.
+// Returns the picture that is made of this.
 fn drawn(
     alloc: Global,
     picture: Picture,
@@ -59,7 +60,7 @@ fn drawn(
     }
 }
 
-// The curve as a drawing.
+// Returns the curve as a drawing.
 fn curve_of(alloc: Global, material: &Material) -> Result<String, AllocError> {
     let subject = &material.subject;
     match &material.points {
@@ -68,7 +69,7 @@ fn curve_of(alloc: Global, material: &Material) -> Result<String, AllocError> {
     }
 }
 
-// The lines that are asked for: the earliest plan where nothing else is.
+// Returns the lines that are asked for: the earliest plan where nothing else is.
 fn lines(
     alloc: Global,
     material: &Material,
@@ -93,7 +94,7 @@ fn lines(
     Ok(text)
 }
 
-// The page.
+// Returns the page.
 fn page_of(alloc: Global, material: &Material) -> Result<String, AllocError> {
     let plan = plan_drawing(alloc, &material.subject, material.greedy.as_ref())?;
     let curve = curve_of(alloc, material)?;

@@ -1,4 +1,4 @@
-// What is told below the line of a fault.
+// What is reported below the line of a fault.
 
 use crate::wanted::Wanted;
 use boc_commands::{Fault, RunFile};
@@ -9,7 +9,7 @@ use boc_said::place::Beside;
 use boc_workers::RunFault;
 use std::alloc::{AllocError, Global};
 
-/// The lines below that of a fault, each with its line feed, where these were the input and the file beside it. There may be none.
+/// Returns the lines below that of a fault, each with its line feed, where these were the input and the file given with it. There may be none.
 pub(crate) fn explained<'a>(
     alloc: Global,
     fault: &Fault,

@@ -1,4 +1,4 @@
-// What the picture that is asked for is made of.
+// What the picture that is requested is made of.
 
 ghost use Rattle.std.specs.Prelude.{◌≡◌, ◌≤◌, true, IfOk, MatchResult};
 ghost use Rattle.boc_program.specs.declared.limits.TheConstants.{MOST_COWNS};
@@ -14,7 +14,7 @@ use boc_cowns::{HotCowns, hot_cowns};
 use boc_greedy::{CurvePoint, Greedy, greedy};
 use boc_pictures::Subject;
 use boc_plans::sharing::Sharing;
-use boc_plans::workers::Workers;
+use boc_program::count::Workers;
 use boc_progress::Progress;
 use boc_runs::rows::Rows;
 use boc_whatif::WhatIf;
@@ -30,7 +30,7 @@ const RECORD_WORD: &[u8] = b"boc";
 #[derive(Drop)]
 pub(crate) struct Material {
     pub subject: Subject,
-    /// The greedy plan, where one is asked for.
+    /// The greedy plan, where one is requested.
     pub greedy: Option<Greedy>,
     /// When the greedy plans for 1, 2, 3 and more workers end.
     pub points: Option<Vec<CurvePoint>>,
@@ -47,8 +47,8 @@ pub(crate) struct Costs {
     pub hot: HotCowns,
 }
 
-/// What the picture that is wanted is made of: the run that a text tells of, which is that of a program or of a record, with the bytes of the file beside it,
-/// if there is one; and what its rows come to. A refusal is that of `named_run`, or memory was refused.
+/// Returns what the picture that is wanted is made of: the run that a text reports on, which is that of a program or of a record, with the bytes of the file
+/// given with it, if there is one; and what its rows take. A refusal is that of `named_run`, or memory was refused.
 #[tactic(auto, using(crate::proofs::Refused::memory_wanting))]
 pub(crate) fn material_of<R: Threads + Wait + Sync, G: Gate>(
     rt: &R,
@@ -74,7 +74,7 @@ pub(crate) fn material_of<R: Threads + Wait + Sync, G: Gate>(
     Ok(material)
 }
 
-// What a picture is made of, of this run, with this text of a program.
+// Returns what a picture is made of, of this run, with this text of a program.
 fn parts_of<R: Threads + Sync>(
     rt: &R,
     alloc: Global,
@@ -100,7 +100,7 @@ fn parts_of<R: Threads + Sync>(
     })
 }
 
-// The text of the program, where the picture shows it; no bytes else.
+// Returns the text of the program, where the picture shows it; no bytes else.
 fn program_shown(alloc: Global, picture: Picture, text: &[u8]) -> Result<Vec<u8>, AllocError>
     ensures { IfOk result (λ shown. IsProgramShown (shows_costs picture) text.now shown.items) }
 {
@@ -111,7 +111,7 @@ fn program_shown(alloc: Global, picture: Picture, text: &[u8]) -> Result<Vec<u8>
     }
 }
 
-// The text of a program; no bytes where it is that of a record.
+// Returns the text of a program; no bytes where it is that of a record.
 fn program_of(alloc: Global, text: &[u8]) -> Result<Vec<u8>, AllocError>
     ensures { IfOk result (λ shown. IsProgramShown true text.now shown.items) }
 {
@@ -121,7 +121,7 @@ fn program_of(alloc: Global, text: &[u8]) -> Result<Vec<u8>, AllocError>
     Vec::from_slice(alloc, text)
 }
 
-// The greedy plan of rows for so many workers, where a number is given.
+// Returns the greedy plan of rows for the given number of workers, where a number is given.
 fn plan_for(
     alloc: Global,
     rows: &Rows,
@@ -136,7 +136,7 @@ fn plan_for(
     }
 }
 
-// The points of the curve of rows, where the picture shows it.
+// Returns the points of the curve of rows, where the picture shows it.
 fn points_for<R: Threads + Sync>(
     rt: &R,
     alloc: Global,
@@ -166,7 +166,7 @@ fn points_of<R: Threads + Sync>(
     WhatIf::new(alloc, rows, sharing)?.curve(rt, alloc, most)
 }
 
-// What rows and so many cowns cost, where the picture shows it.
+// Returns what rows and this many cowns cost, where the picture shows it.
 fn costs_for<R: Threads + Sync>(
     rt: &R,
     alloc: Global,
@@ -184,7 +184,7 @@ fn costs_for<R: Threads + Sync>(
     Ok(Some(costs))
 }
 
-// What rows and so many cowns cost.
+// Returns what rows and this many cowns cost.
 fn costs_of<R: Threads + Sync>(
     rt: &R,
     alloc: Global,

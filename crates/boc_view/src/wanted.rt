@@ -1,4 +1,4 @@
-// What is asked for.
+// What is requested.
 
 ghost use Rattle.std.specs.Prelude.{◌≡◌};
 ghost use Rattle.boc_view.specs.Materials.{most_of, shows_costs, shows_curve, shows_greedy, workers_shown};
@@ -6,7 +6,7 @@ ghost use Rattle.boc_view.specs.Materials.{most_of, shows_costs, shows_curve, sh
 use boc_commands::{RunFile, Schedule};
 use boc_front::Given;
 use boc_plans::sharing::Sharing;
-use boc_plans::workers::Workers;
+use boc_program::count::Workers;
 use boc_program::limits::MOST_WORKERS;
 
 /// A picture.
@@ -25,7 +25,7 @@ pub(crate) enum Picture {
 }
 
 impl Picture {
-    /// The program and the command that draws it.
+    /// Returns the program and the command that draws it.
     pub(crate) fn command(self) -> &'static str {
         match self {
             Picture::Text { .. } => "boc-view text",
@@ -36,7 +36,7 @@ impl Picture {
         }
     }
 
-    // Whether it shows the greedy plan for the workers that are asked for.
+    // Returns whether it shows the greedy plan for the workers that are asked for.
     fn shows_greedy(self) -> bool
         ensures { result ≡ shows_greedy self }
     {
@@ -47,7 +47,7 @@ impl Picture {
         }
     }
 
-    /// Whether it shows when the greedy plans for 1, 2, 3 and more workers end.
+    /// Returns whether it shows when the greedy plans for 1, 2, 3 and more workers end.
     pub(crate) fn shows_curve(self) -> bool
         ensures { result ≡ shows_curve self }
     {
@@ -58,7 +58,7 @@ impl Picture {
         }
     }
 
-    /// Whether it shows what each row and each cown costs, and the program.
+    /// Returns whether it shows what each row and each cown costs, and the program.
     pub(crate) fn shows_costs(self) -> bool
         ensures { result ≡ shows_costs self }
     {
@@ -66,7 +66,7 @@ impl Picture {
     }
 }
 
-/// What is asked for: a picture of a run.
+/// What is requested: a picture of a run.
 #[derive(Drop)]
 pub(crate) struct Wanted {
     pub picture: Picture,
@@ -79,14 +79,14 @@ pub(crate) struct Wanted {
     pub sharing: Sharing,
     /// The path of the file that the input is in, where it isn't standard input.
     pub input: Option<String>,
-    /// The file beside the input.
+    /// The file given with the input.
     pub file: Option<RunFile>,
     /// How many columns a text has, where that is given.
     pub width: Option<u32>,
 }
 
 impl Wanted {
-    /// The workers whose greedy plan is shown, if any.
+    /// Returns the workers whose greedy plan is shown, if any.
     pub(crate) fn workers_shown(&self) -> Option<Workers>
         ensures { result ≡ workers_shown self.now }
     {
@@ -97,7 +97,7 @@ impl Wanted {
         }
     }
 
-    /// The most workers of a curve: as many as are asked for, and 64 where no number is given.
+    /// Returns the most workers of a curve: as many as are asked for, and 64 where no number is given.
     pub(crate) fn most(&self) -> Workers
         ensures { result ≡ most_of self.now.workers }
     {

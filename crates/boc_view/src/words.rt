@@ -2,11 +2,10 @@
 
 use crate::wanted::{Picture, Wanted};
 use boc_commands::{Fault, RunFile, Runners, Schedule, VERSION, WordsFault};
-use boc_draws::{Depth, MOST_DEPTH};
 use boc_front::Given;
 use boc_plans::sharing::Sharing;
-use boc_plans::workers::Workers;
-use boc_program::limits::{MOST_RUNNERS, MOST_WORKERS};
+use boc_program::count::{Depth, Workers};
+use boc_program::limits::{MOST_DEPTH, MOST_RUNNERS, MOST_WORKERS};
 use clap::error::ErrorKind;
 use clap::{Arg, ArgAction, ArgMatches, Command, value_parser};
 use std::alloc::{AllocError, Global};
@@ -55,7 +54,7 @@ pub(crate) enum Asked {
     Told(String),
 }
 
-/// What the words of a command line ask for, the program's own name first.
+/// Returns what the words of a command line ask for, the program's own name first.
 pub(crate) fn read_words(alloc: Global, words: &[String]) -> Result<Asked, Fault> {
     let mut parser = parser(alloc)?;
     match parser.try_get_matches_from_mut(words) {
@@ -69,7 +68,7 @@ pub(crate) fn read_words(alloc: Global, words: &[String]) -> Result<Asked, Fault
     }
 }
 
-// What the parser accepts.
+// Returns what the parser accepts.
 fn parser<'a>(alloc: Global) -> Result<Command<'a>, AllocError> {
     let mut parser = Command::new(alloc, "boc-view")
         .about("Draw the plans of programs under behaviour-oriented concurrency")
@@ -96,7 +95,7 @@ fn parser<'a>(alloc: Global) -> Result<Command<'a>, AllocError> {
     Ok(parser)
 }
 
-// The command that writes text.
+// Returns the command that writes text.
 fn text_command<'a>(alloc: Global) -> Result<Command<'a>, AllocError> {
     let command = Command::new(alloc, "text")
         .about("Print the earliest plan as text")
@@ -120,7 +119,7 @@ fn text_command<'a>(alloc: Global) -> Result<Command<'a>, AllocError> {
     with_common(alloc, command)
 }
 
-// A flag.
+// Returns a flag.
 fn flag<'a>(alloc: Global, name: &'static str, help: &'static str) -> Arg<'a> {
     Arg::new(alloc, name)
         .long(name)
@@ -128,7 +127,7 @@ fn flag<'a>(alloc: Global, name: &'static str, help: &'static str) -> Arg<'a> {
         .help(help)
 }
 
-// An option with a number up to some.
+// Returns an option with a number up to some.
 fn number<'a>(
     alloc: Global,
     name: &'static str,
@@ -143,7 +142,7 @@ fn number<'a>(
         .help(help)
 }
 
-// An option with a file.
+// Returns an option with a file.
 fn file<'a>(alloc: Global, name: &'static str, help: &'static str) -> Arg<'a> {
     Arg::new(alloc, name)
         .long(name)
@@ -151,7 +150,7 @@ fn file<'a>(alloc: Global, name: &'static str, help: &'static str) -> Arg<'a> {
         .help(help)
 }
 
-// A command with the operand and the options that all have.
+// Returns a command with the operand and the options that all have.
 fn with_common<'a>(alloc: Global, command: Command<'a>) -> Result<Command<'a>, AllocError> {
     command
         .arg(
@@ -202,7 +201,7 @@ fn with_common<'a>(alloc: Global, command: Command<'a>) -> Result<Command<'a>, A
         .arg(file(alloc, "names", "Read the names of rows and cowns from FILE"))
 }
 
-// What was found in the words.
+// Returns what was found in the words.
 fn asked_of(alloc: Global, matches: &ArgMatches) -> Result<Asked, Fault> {
     let Some((name, matches)) = matches.subcommand() else {
         return refused(alloc, ErrorKind::MissingSubcommand, "no picture is named");
@@ -261,7 +260,7 @@ fn asked_of(alloc: Global, matches: &ArgMatches) -> Result<Asked, Fault> {
     }))
 }
 
-// A fault of the words with a text of our own.
+// Returns a fault of the words with a text of our own.
 fn refused(alloc: Global, kind: ErrorKind, text: &str) -> Result<Asked, Fault> {
     let mut parser = parser(alloc)?;
     match parser.error(kind, text) {
@@ -270,11 +269,11 @@ fn refused(alloc: Global, kind: ErrorKind, text: &str) -> Result<Asked, Fault> {
     }
 }
 
-// How a program is run: by threads, or as a seed has it.
+// Returns how a program is run: by threads, or as a seed has it.
 fn schedule_of(workers: Option<u32>, seed: Option<u64>, depth: Option<u32>) -> Schedule {
     let workers = workers
         .and_then(|number| Runners::new(number))
-        .unwrap_or(Runners::one());
+        .unwrap_or(Runners::new(1).unwrap());
     match seed {
         None => Schedule::Threads(workers),
         Some(seed) => Schedule::Drawn {
@@ -285,22 +284,22 @@ fn schedule_of(workers: Option<u32>, seed: Option<u64>, depth: Option<u32>) -> S
     }
 }
 
-// Whether a flag is given.
+// Returns whether a flag is given.
 fn is_set(matches: &ArgMatches, id: &str) -> bool {
     matches.get_str(id) == Some("true")
 }
 
-// The number that is given for an option.
+// Returns the number that is given for an option.
 fn number_at(matches: &ArgMatches, id: &str) -> Option<u32> {
     matches.get_str(id)?.parse::<u32>().ok()
 }
 
-// The seed that is given.
+// Returns the seed that is given.
 fn seed_at(matches: &ArgMatches) -> Option<u64> {
     matches.get_str("seed")?.parse::<u64>().ok()
 }
 
-// The text that is given for an option.
+// Returns the text that is given for an option.
 fn text_at(alloc: Global, matches: &ArgMatches, id: &str) -> Result<Option<String>, AllocError> {
     match matches.get_str(id) {
         Some(text) => Ok(Some(String::from_str(alloc, text)?)),
@@ -308,7 +307,7 @@ fn text_at(alloc: Global, matches: &ArgMatches, id: &str) -> Result<Option<Strin
     }
 }
 
-// The path of the file that is read instead of standard input.
+// Returns the path of the file that is read instead of standard input.
 fn input_at(alloc: Global, matches: &ArgMatches) -> Result<Option<String>, AllocError> {
     if matches.get_str("input") == Some("-") {
         return Ok(None);

@@ -1,4 +1,4 @@
-//! Runs a program by two workers in turn, takes the run's record up, and asks for its plan; and where memory is refused, it asks for the
+//! Runs a program with two workers in turn, takes the run's record up, and asks for its plan; and where memory is refused, it asks for the
 //! same once more. So whichever one request is refused, it writes the same.
 #![tactic(auto)]
 
@@ -29,7 +29,7 @@ main {
 // The run has this many turns at most.
 const MOST_TURNS: u32 = 1000;
 
-// The program, read once more where memory was refused.
+// Returns the program, read once more where memory was refused.
 fn program(alloc: Global) -> Option<Program> {
     match read_program(alloc, TEXT.as_bytes()) {
         Ok(program) => Some(program),
@@ -37,7 +37,7 @@ fn program(alloc: Global) -> Option<Program> {
     }
 }
 
-// The program with the code of its bodies, made once more where memory was refused.
+// Returns the program with the code of its bodies, made once more where memory was refused.
 fn compiled(alloc: Global, program: &Program) -> Option<CompiledProgram<'_>> {
     match CompiledProgram::new(alloc, program) {
         Ok(compiled) => Some(compiled),
@@ -45,7 +45,7 @@ fn compiled(alloc: Global, program: &Program) -> Option<CompiledProgram<'_>> {
     }
 }
 
-// A dispatcher of the program, made once more where memory was refused.
+// Returns a dispatcher of the program, made once more where memory was refused.
 fn dispatcher<'a>(alloc: Global, program: &'a CompiledProgram<'a>) -> Option<Dispatcher<'a>> {
     match Dispatcher::new(alloc, program) {
         Ok(core) => Some(core),
@@ -53,7 +53,7 @@ fn dispatcher<'a>(alloc: Global, program: &'a CompiledProgram<'a>) -> Option<Dis
     }
 }
 
-// A worker thinks and has one turn; where memory is refused, the same call is made once more.
+// Returns a worker thinks and has one turn; where memory is refused, the same call is made once more.
 fn take_turn<'a>(
     alloc: Global,
     worker: &mut Worker<'a>,
@@ -68,7 +68,7 @@ fn take_turn<'a>(
     }
 }
 
-// The dispatcher after the turns of two workers, one after the other, until all is over.
+// Returns the dispatcher after the turns of two workers, one after the other, until all has ended.
 fn driven<'a>(alloc: Global, program: &'a CompiledProgram<'a>) -> Option<Dispatcher<'a>> {
     let mut core = dispatcher(alloc, program)?;
     let (mut first, mut second) = (Worker::new(0), Worker::new(1));
@@ -81,7 +81,7 @@ fn driven<'a>(alloc: Global, program: &'a CompiledProgram<'a>) -> Option<Dispatc
     None
 }
 
-// Rules over so many cowns, made once more where memory was refused.
+// Rules over this many cowns, made once more where memory was refused.
 fn rules(alloc: Global, cowns: u32) -> Option<Rules> {
     if cowns as usize > MOST_COWNS {
         return None;
@@ -92,7 +92,7 @@ fn rules(alloc: Global, cowns: u32) -> Option<Rules> {
     }
 }
 
-// An event is put behind the others, once more where memory was refused.
+// Returns an event is put after the others, once more where memory was refused.
 fn apply(rules: &mut Rules, event: &Event) -> Option<()> {
     match rules.apply(event) {
         Err(RuleFault::Memory) => rules.apply(event).ok(),
@@ -100,7 +100,7 @@ fn apply(rules: &mut Rules, event: &Event) -> Option<()> {
     }
 }
 
-// The span of some rows, asked for once more where memory was refused.
+// Returns the span of some rows, asked for once more where memory was refused.
 fn span(alloc: Global, rows: &Rows) -> Option<u64> {
     match WhatIf::new(alloc, rows, Sharing::Exclusive) {
         Ok(question) => Some(question.span()),
@@ -108,7 +108,7 @@ fn span(alloc: Global, rows: &Rows) -> Option<u64> {
     }
 }
 
-// The lines of a log, written once more where memory was refused.
+// Returns the lines of a log, written once more where memory was refused.
 fn lines(alloc: Global, core: &Dispatcher<'_>) -> Option<Vec<u8>> {
     for _ in 0..2 {
         let mut text = Vec::new(alloc);
@@ -119,7 +119,7 @@ fn lines(alloc: Global, core: &Dispatcher<'_>) -> Option<Vec<u8>> {
     None
 }
 
-// The record of a finished run, taken up event by event.
+// Returns the record of a finished run, taken up event by event.
 fn record(alloc: Global, core: &Dispatcher<'_>) -> Option<Record> {
     let mut rules = rules(alloc, 8)?;
     let log = core.log();
@@ -129,14 +129,14 @@ fn record(alloc: Global, core: &Dispatcher<'_>) -> Option<Record> {
     rules.into_record().ok()
 }
 
-// The log of a finished run, its steps and the span of its rows.
+// Returns the log of a finished run, its steps and the span of its rows.
 fn told_of(alloc: Global, core: &Dispatcher<'_>) -> Option<(Vec<u8>, u64, u64)> {
     let text = lines(alloc, core)?;
     let span = span(alloc, record(alloc, core)?.rows())?;
     Some((text, core.steps(), span))
 }
 
-// The same of the program's run.
+// Returns the same of the program's run.
 fn told(alloc: Global) -> Option<(Vec<u8>, u64, u64)> {
     let program = program(alloc)?;
     let compiled = compiled(alloc, &program)?;

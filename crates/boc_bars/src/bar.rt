@@ -21,7 +21,7 @@ pub struct Bar {
     pub lane: u32,
 }
 
-/// The bars of rows, in their order, each in a lane of its own. `AllocError` says that memory was refused, or that rows are more than 32 bits count.
+/// Returns the bars of rows, in their order, each in a lane of its own. `AllocError` says that memory was refused, or that rows are more than 32 bits count.
 pub fn bars_of(alloc: Global, rows: &[Stretch]) -> Result<Vec<Bar>, AllocError>
     ensures { IfOk result (λ bars. AreBars rows.now bars.items) }
 {
@@ -39,7 +39,7 @@ pub fn bars_of(alloc: Global, rows: &[Stretch]) -> Result<Vec<Bar>, AllocError>
     Ok(bars)
 }
 
-/// How many lanes these bars need: one more than the greatest. It takes no memory.
+/// Returns how many lanes these bars need: one more than the greatest. It takes no memory.
 pub fn lane_count(bars: &[Bar]) -> u64
     ensures { All (λ bar. bar.lane < result) bars.now }
 {

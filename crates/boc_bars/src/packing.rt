@@ -9,7 +9,7 @@ use std::alloc::{AllocError, Global};
 use std::cmp::Reverse;
 use std::collections::BinaryHeap;
 
-/// The bars of rows, those that start first in front, packed into lanes: of two in one lane the one in front
+/// Returns the bars of rows, those that start first in front, packed into lanes: of two in one lane the one in front
 /// ends by the time that the other starts. `AllocError` says that memory was refused.
 ///
 /// A bar takes the lane that has been free for longest, and a new one where none is free, so that there are few lanes; that is tested, and no promise.
@@ -61,7 +61,7 @@ impl Packing {
         Ok(())
     }
 
-    // A lane that is free at a tick: the one that has been free for longest, or else a new one.
+    // Returns a lane that is free at a tick: the one that has been free for longest, or else a new one.
     fn free_lane(&mut self, tick: u64) -> Result<u32, AllocError>
         ensures there { IfOk result (λ lane. lane < length self.new.free.items) }
         ensures free { IfOk result (λ lane. get_or self.new.free.items lane 0 ≤ tick) }
@@ -83,7 +83,7 @@ impl Packing {
         self.new_lane()
     }
 
-    // A lane more, which is free from the start on.
+    // Returns a lane more, which is free from the start on.
     fn new_lane(&mut self) -> Result<u32, AllocError>
         ensures there { IfOk result (λ lane. lane < length self.new.free.items) }
         ensures free { IfOk result (λ lane. get_or self.new.free.items lane 0 ≡ 0) }
@@ -96,7 +96,7 @@ impl Packing {
     }
 }
 
-// The later of two ticks.
+// Returns the later of two ticks.
 fn later_of(a: u64, b: u64) -> u64
     ensures first { a ≤ result }
     ensures second { b ≤ result }

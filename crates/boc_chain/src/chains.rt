@@ -67,21 +67,21 @@ pub trait Chains {
         ensures lists { lists self.new ≡ with_change after_leave (lists self.old) (place self.old slot.index) i }
         ensures places { (s : ℕ) → place self.new s ≡ place self.old s };
 
-    /// Whether `settle` would settle request i.
+    /// Returns whether `settle` would settle request i.
     fn can_settle(&self, slot: Slot, i: usize) -> bool
         requires there { i < length (cowns_of (place self.now slot.index)) }
         requires exchanged { StandsIn (list_for (lists self.now) (place self.now slot.index) i) slot.index }
         ensures blocked { let requests = list_for (lists self.now) (place self.now slot.index) i in
             (result ≡ false) ↔ (settle_answer slot.index requests ≡ SettleBlocked) };
 
-    /// Whether `leave` would take request i off.
+    /// Returns whether `leave` would take request i off.
     fn can_leave(&self, slot: Slot, i: usize) -> bool
         requires there { i < length (cowns_of (place self.now slot.index)) }
         requires granted { IsGranted slot.index (list_for (lists self.now) (place self.now slot.index) i) }
         ensures blocked { let requests = list_for (lists self.now) (place self.now slot.index) i in
             (result ≡ false) ↔ (leave_answer requests ≡ LeaveBlocked) };
 
-    /// Gives the room of a slot back, of which no request is in a list.
+    /// Frees a slot, of which no request is in a list.
     fn dismiss(&mut self, slot: Slot)
         requires admitted { IsSome (place self.old slot.index) }
         requires empty { (c : ℕ) → times slot.index (slots (list (lists self.old) c)) ≡ 0 }

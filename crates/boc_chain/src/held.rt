@@ -15,7 +15,7 @@ pub struct Held {
     pub exchanged: usize,
 }
 
-/// The cown of request i at a slot.
+/// Returns the cown of request i at a slot.
 pub fn cown_at(places: &[Option<Held>], slot: usize, i: usize) -> usize
     requires { i < length (cowns_of (place_at places.now slot)) }
     ensures { result ≡ cown (place_at places.now slot) i }
@@ -26,7 +26,7 @@ pub fn cown_at(places: &[Option<Held>], slot: usize, i: usize) -> usize
     }
 }
 
-/// One more request of the slot is exchanged.
+/// Counts one more request of the slot as exchanged.
 pub fn count_exchange(places: &mut Vec<Option<Held>>, slot: usize)
     requires { exchanged_of (place_at places.old.items slot) < length (cowns_of (place_at places.old.items slot)) }
     ensures here { place_at places.new.items slot ≡ one_more (place_at places.old.items slot) }
@@ -46,7 +46,7 @@ pub fn count_exchange(places: &mut Vec<Option<Held>>, slot: usize)
     }
 }
 
-// How often a cown stands in a list.
+// Returns how often a cown is in a list.
 fn count_of(cowns: &[CownNo], c: CownNo) -> usize
     ensures { result ≡ times c cowns.now }
 {
@@ -59,7 +59,7 @@ fn count_of(cowns: &[CownNo], c: CownNo) -> usize
     count
 }
 
-// How many requests of what is held are still to go into the list of a cown.
+// Returns how many requests of what is held are still to go into the list of a cown.
 fn awaited_by(held: &Option<Held>, c: CownNo) -> usize
     ensures { result ≡ awaits c held.now }
 {
@@ -72,7 +72,7 @@ fn awaited_by(held: &Option<Held>, c: CownNo) -> usize
     }
 }
 
-/// How many requests are still to go into the list of a cown.
+/// Returns how many requests are still to go into the list of a cown.
 pub fn count_awaited(places: &[Option<Held>], c: CownNo) -> usize
     requires { sum_by (awaits c) places.now < 2 ^ 64 }
     ensures { result ≡ sum_by (awaits c) places.now }
@@ -84,7 +84,7 @@ pub fn count_awaited(places: &[Option<Held>], c: CownNo) -> usize
     count
 }
 
-/// Whether nothing is held at a slot.
+/// Returns whether nothing is held at a slot.
 pub fn is_vacant(places: &[Option<Held>], slot: usize) -> bool
     ensures { IsTrue result ↔ (place_at places.now slot ≡ None) }
 {

@@ -14,14 +14,14 @@ use boc_program::short::HeldCown;
 use std::alloc::{AllocError, Global};
 use std::marker::Model;
 
-// As many links as a slot keeps in itself, and as many as it keeps beside itself where it has to.
+// As many links as a slot keeps in itself, and as many as it keeps with itself where it has to.
 const FEW: usize = 2;
 
 const REST: usize = MOST_HELD - FEW;
 
 /// What was admitted: the cowns, and the links of the requests exchanged so far.
 ///
-/// There is room for the link of each request, so that an exchange takes no memory. Many behaviours wait at once, and most
+/// There is space for the link of each request, so that an exchange takes no memory. Many behaviours wait at once, and most
 /// have at most two cowns, whose links are kept in the slot itself.
 #[derive(Drop)]
 pub struct Linked {
@@ -36,11 +36,11 @@ enum Kept {
     More(Head, Box<[ShortLink; REST]>),
 }
 
-// The cowns, and the first links. What stands behind the links that are there is not looked at.
+// The cowns, and the first links. What comes after the links that are there is not looked at.
 #[derive(Drop)]
 struct Head {
     cowns: HeldCowns,
-    // How many links there are, in the head and beside it.
+    // How many links there are, in the head and next to it.
     count: u8,
     first: [ShortLink; FEW],
 }
@@ -55,7 +55,7 @@ impl Model for Linked {
     ghost invariant = { λ a. IsKept a.kept };
 }
 
-// Room for the links that are kept beside a slot.
+// Space for the links that are kept with a slot.
 fn blanks() -> [ShortLink; REST] {
     [
         ShortLink::blank(),
@@ -68,7 +68,7 @@ fn blanks() -> [ShortLink; REST] {
 }
 
 impl Kept {
-    // The cowns, and the first links.
+    // Returns the cowns, and the first links.
     #[inline(always)]
     fn head(&self) -> &Head
         ensures { result.now ≡ head_of self.now }
@@ -79,7 +79,7 @@ impl Kept {
         }
     }
 
-    // What stands at a place.
+    // Returns what is at a place.
     #[inline(always)]
     #[tactic(auto, using(crate::proofs::Keeping::first_at, crate::proofs::Keeping::rest_at))]
     fn at(&self, place: usize) -> Link
@@ -99,7 +99,7 @@ impl Kept {
         }
     }
 
-    // Writes over what stands at a place.
+    // Writes over what is at a place.
     #[inline(always)]
     #[tactic(auto, using(crate::proofs::Keeping::set_rest))]
     fn put(&mut self, place: usize, link: ShortLink)
@@ -123,7 +123,7 @@ impl Kept {
         }
     }
 
-    // Changes what stands at a place.
+    // Changes what is at a place.
     #[inline(always)]
     fn change(&mut self, place: usize, change: Change)
         requires there { place < room_of self.old }
@@ -166,7 +166,7 @@ impl Kept {
 }
 
 impl Linked {
-    /// These cowns, and no links. Room for more than two links takes memory; `AllocError` says that it was refused.
+    /// Keeps these cowns, and no links. Space for more than two links takes memory; `AllocError` says that it was refused.
     #[inline]
     pub fn new(alloc: Global, cowns: HeldCowns) -> Result<Linked, AllocError>
         ensures cowns { IfOk result (λ l. l.cowns ≡ cowns) }
@@ -187,7 +187,7 @@ impl Linked {
         Ok(Linked { kept })
     }
 
-    /// The cowns, in the order of their requests.
+    /// Returns the cowns, in the order of their requests.
     #[inline(always)]
     pub fn cowns(&self) -> &[HeldCown]
         ensures { result.now ≡ self.now.cowns.items }
@@ -195,7 +195,7 @@ impl Linked {
         self.kept.head().cowns.as_slice()
     }
 
-    /// The link at a place.
+    /// Returns the link at a place.
     #[inline(always)]
     pub fn at(&self, place: usize) -> Link
         requires { place < length self.now.links }
@@ -215,7 +215,7 @@ impl Linked {
         self.kept.change(place, change);
     }
 
-    /// Adds a link behind the others.
+    /// Adds a link after the others.
     #[inline(always)]
     pub fn add(&mut self, link: Link)
         requires { length self.old.links < length self.old.cowns.items }

@@ -1,4 +1,4 @@
-//! Request chains: who asked for a cown before whom.
+//! Request chains: which behaviour requested a cown before which.
 //!
 //! A behaviour is admitted with its cowns and is given a slot. It has one request for each of its cowns, and each
 //! cown has the list of its requests, in the order in which they were exchanged (`swap`). A request is settled

@@ -30,7 +30,7 @@ pub struct LinkChains {
     ghost linked: { IsLinked last.items slots peak } by { Prim.hlevel (props, Spells-prop) },
 }
 
-// Whether it is at this slot.
+// Returns whether it is at this slot.
 fn is_slot(last: Option<Node>, slot: usize) -> bool
     ensures { IsTrue result ↔ (option_map (λ n. n.slot) last ≡ Some slot) }
 {
@@ -40,14 +40,14 @@ fn is_slot(last: Option<Node>, slot: usize) -> bool
     }
 }
 
-// No last request, for each of so many cowns.
+// No last request, for each of the given number of cowns.
 fn no_last(alloc: Global, cowns: usize) -> Result<Vec<Option<Node>>, AllocError>
     ensures { IfOk result (λ last. last.items ≡ replicate cowns None) }
 {
     Ok(vec![in alloc; None; cowns]?)
 }
 
-// The slot of a request, if there is one.
+// Returns the slot of a request, if there is one.
 fn slot_in(node: Option<Node>) -> Option<Slot>
     ensures { result ≡ option_map slot_at (option_map (λ n. n.slot) node) }
 {
@@ -63,7 +63,7 @@ impl LinkChains {
     ghost use Rattle.boc_chain.specs.Linked.{links, last_of};
     ghost use Rattle.boc_chain.specs.LinkViews.{lists as link_lists, place as link_place, held, peak as link_peak};
 
-    /// Chains of so many cowns, with no request. `AllocError` says that memory was refused.
+    /// Makes chains of the given number of cowns, with no request. `AllocError` says that memory was refused.
     pub fn new(alloc: Global, cowns: usize) -> Result<LinkChains, AllocError>
         requires { cowns ≤ MOST_COWNS }
         ensures lists { IfOk result (λ chains. link_lists chains ≡ replicate cowns []) }
@@ -79,7 +79,7 @@ impl LinkChains {
         })
     }
 
-    /// How the links spell the lists: `last` is the end of each list, the link of each request has the slot
+    /// Proves how the links spell the lists: `last` is the end of each list, the link of each request has the slot
     /// before it and, exactly where that has settled, the slot after it, and the slot of each request is held.
     pub fn spells_lists(&self)
         ensures last { (c : ℕ) → c < length (link_lists self.now) → last_of self.now.last.items c
@@ -90,7 +90,7 @@ impl LinkChains {
             → IsSome (link_place self.now s) }
     {}
 
-    /// The greatest number of slots held at once so far.
+    /// Returns the greatest number of slots held at once so far.
     pub fn peak(&self) -> usize
         ensures peak { result ≡ link_peak self.now }
         ensures held { held self.now ≤ result }

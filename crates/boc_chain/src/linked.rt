@@ -62,7 +62,7 @@ impl Linked {
         self.add(link);
     }
 
-    // The link of the request at a place.
+    // Returns the link of the request at a place.
     #[inline(always)]
     fn link(&self, place: usize) -> Link
         requires { place < exchanged_of (place_in (Some self.now)) }
@@ -117,7 +117,7 @@ pub fn settle_at(slots: &mut Slab<Linked>, node: Node) -> Settled
     }
 }
 
-/// Whether a request can be settled.
+/// Returns whether a request can be settled.
 pub fn can_settle_at(slots: &Slab<Linked>, node: Node) -> bool
     requires { (c : ℕ) × ((xs : List Request) × Holds slots.now c node xs) }
     ensures { (c : ℕ) (xs : List Request) → Holds slots.now c node xs
@@ -129,14 +129,14 @@ pub fn can_settle_at(slots: &Slab<Linked>, node: Node) -> bool
     }
 }
 
-// The slot of a request.
+// Returns the slot of a request.
 fn slot_of(node: Option<Node>) -> Option<usize>
     ensures { result ≡ option_map (λ n. n.slot) node }
 {
     node.map(|node| node.slot as usize)
 }
 
-/// The slot of the request that follows one at the front, where it has settled.
+/// Returns the slot of the request that follows one at the front, where it has settled.
 pub fn next_at(slots: &Slab<Linked>, node: Node) -> Option<usize>
     requires { (c : ℕ) × ((xs : List Request) × Leads slots.now c node xs) }
     ensures { (c : ℕ) (xs : List Request) → Leads slots.now c node xs → result ≡ next_of (drop 1 xs) }
@@ -179,7 +179,7 @@ pub fn push_link(slots: &mut Slab<Linked>, slot: usize, link: Link)
     slots[slot].push(link);
 }
 
-/// The cown of request i at a slot.
+/// Returns the cown of request i at a slot.
 pub fn cown_at(slots: &Slab<Linked>, slot: usize, i: usize) -> CownNo
     requires { i < length (cowns_of (place_at slots.now slot)) }
     ensures { result ≡ cown (place_at slots.now slot) i }
@@ -187,7 +187,7 @@ pub fn cown_at(slots: &Slab<Linked>, slot: usize, i: usize) -> CownNo
     CownNo::from(slots[slot].cowns()[i])
 }
 
-/// The link of a request. It is unpacked where it is called, so that only those parts are which the caller looks at.
+/// Returns the link of a request. It is unpacked where it is called, so that only those parts are which the caller looks at.
 #[inline(always)]
 pub fn link_at(slots: &Slab<Linked>, node: Node) -> Link
     requires { node.place < exchanged_of (place_at slots.now node.slot) }

@@ -46,7 +46,7 @@ fn make_room(
     Ok(())
 }
 
-// The key that comes next, of 16 bits, where nothing is held at it.
+// Returns the key that comes next, of 16 bits, where nothing is held at it.
 fn next_vacant(keys: &Slab<()>, places: &[Option<Held>]) -> Result<usize, AllocError>
     ensures vacant { IfOk result (λ index. place_at places.now index ≡ None) }
     ensures low { IfOk result (λ index. index < 2 ^ 16) }
@@ -61,7 +61,7 @@ fn next_vacant(keys: &Slab<()>, places: &[Option<Held>]) -> Result<usize, AllocE
 impl ListChains {
     ghost use Rattle.boc_chain.specs.Views.{lists as plain_lists, place as plain_place};
 
-    /// Chains of so many cowns, with no request.
+    /// Makes chains of the given number of cowns, with no request.
     pub fn new(alloc: Global, cowns: usize) -> Result<ListChains, AllocError>
         ensures lists { IfOk result (λ chains. plain_lists chains ≡ replicate cowns []) }
         ensures places { IfOk result (λ chains. (s : ℕ) → plain_place chains s ≡ None) }

@@ -9,7 +9,7 @@ ghost use Rattle.boc_chain.specs.declared.request.Released.TheVariants.{Blocked 
 
 use crate::request::{Released, Request, Settled, Slot};
 
-/// The slot at the end of a list.
+/// Returns the slot at the end of a list.
 pub fn end_of(requests: &[Request]) -> Option<Slot>
     ensures { result ≡ last_slot requests.now }
 {
@@ -18,7 +18,7 @@ pub fn end_of(requests: &[Request]) -> Option<Slot>
     })
 }
 
-// The request, settled where it is the slot's.
+// Returns the request, settled where it is the slot's.
 fn settled_if(request: Request, slot: usize) -> Request
     ensures { result ≡ settle_one slot request }
 {
@@ -28,7 +28,7 @@ fn settled_if(request: Request, slot: usize) -> Request
     }
 }
 
-// The request, flagged where it is the slot's.
+// Returns the request, flagged where it is the slot's.
 fn flagged_if(request: Request, slot: usize) -> Request
     ensures { result ≡ flag_one slot request }
 {
@@ -65,14 +65,14 @@ pub fn flag_in(requests: &mut Vec<Request>, slot: usize)
     mark_flagged(requests, slot);
 }
 
-// The place of the slot's request.
+// Returns the place of the slot's request.
 fn place_of(requests: &[Request], slot: usize) -> Option<usize>
     ensures { result ≡ position (λ r. r.slot == slot) requests.now }
 {
     requests.iter().position(|request| request.slot == slot)
 }
 
-// The request right before the slot's.
+// Returns the request right before the slot's.
 fn one_before(requests: &[Request], slot: usize) -> Option<Request>
     ensures { result ≡ before slot requests.now }
 {
@@ -104,7 +104,7 @@ pub fn settle_in(requests: &mut Vec<Request>, slot: usize) -> Settled
     }
 }
 
-/// Takes the front off its cown's list, where nobody is behind it or the next is settled.
+/// Takes the front off its cown's list, where no request is after it or the next is settled.
 pub fn leave_in(requests: &mut Vec<Request>) -> Released
     requires { 0 < length requests.old.items }
     ensures answer { result ≡ leave_answer requests.old.items }
@@ -126,7 +126,7 @@ pub fn leave_in(requests: &mut Vec<Request>) -> Released
     }
 }
 
-/// Whether the slot's request can be settled in its cown's list.
+/// Returns whether the slot's request can be settled in its cown's list.
 pub fn can_settle_in(requests: &[Request], slot: usize) -> bool
     ensures { (result ≡ false) ↔ (settle_answer slot requests.now ≡ SettleBlocked) }
 {
@@ -136,7 +136,7 @@ pub fn can_settle_in(requests: &[Request], slot: usize) -> bool
     }
 }
 
-/// Whether the front can leave its cown's list.
+/// Returns whether the front can leave its cown's list.
 pub fn can_leave_in(requests: &[Request]) -> bool
     ensures { (result ≡ false) ↔ (leave_answer requests.now ≡ LeaveBlocked) }
 {

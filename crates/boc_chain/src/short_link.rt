@@ -52,7 +52,7 @@ impl Model for ShortLink {
 }
 
 impl Marks {
-    // The marks of a request that has settled or not, and is scheduled or not.
+    // Returns the marks of a request that has settled or not, and is scheduled or not.
     #[inline(always)]
     fn of(settled: bool, scheduled: bool) -> Marks
         ensures settled { has_settled result ≡ settled }
@@ -66,7 +66,7 @@ impl Marks {
         }
     }
 
-    // The request has settled.
+    // Returns whether the request has settled.
     #[inline(always)]
     fn has_settled(self) -> bool
         ensures { result ≡ has_settled self }
@@ -77,7 +77,7 @@ impl Marks {
         }
     }
 
-    // The request is scheduled.
+    // Returns whether the request is scheduled.
     #[inline(always)]
     fn is_scheduled(self) -> bool
         ensures { result ≡ is_scheduled self }
@@ -90,7 +90,7 @@ impl Marks {
 }
 
 impl Sides {
-    // The sides of a request that knows the one before it or not, and the one after it or not.
+    // Returns the sides of a request that knows the one before it or not, and the one after it or not.
     #[inline(always)]
     fn of(before: bool, next: bool) -> Sides
         ensures before { has_before result ≡ before }
@@ -104,7 +104,7 @@ impl Sides {
         }
     }
 
-    // The request before it is known.
+    // Returns whether the request before it is known.
     #[inline(always)]
     fn has_before(self) -> bool
         ensures { result ≡ has_before self }
@@ -115,7 +115,7 @@ impl Sides {
         }
     }
 
-    // The request after it is known.
+    // Returns whether the request after it is known.
     #[inline(always)]
     fn has_next(self) -> bool
         ensures { result ≡ has_next self }
@@ -127,7 +127,7 @@ impl Sides {
     }
 }
 
-// Whether there is a node, and its slot and its place.
+// Returns whether there is a node, and its slot and its place.
 #[inline(always)]
 fn parts(node: Option<Node>) -> (bool, u16, u8)
     ensures { node_if result.0 result.1 result.2 ≡ node }
@@ -138,7 +138,7 @@ fn parts(node: Option<Node>) -> (bool, u16, u8)
     }
 }
 
-// The node of this slot and place, if there is one.
+// Returns the node of this slot and place, if there is one.
 #[inline(always)]
 fn node(is_there: bool, slot: u16, place: u8) -> Option<Node>
     ensures { result ≡ node_if is_there slot place }
@@ -151,7 +151,7 @@ fn node(is_there: bool, slot: u16, place: u8) -> Option<Node>
 }
 
 impl ShortLink {
-    /// This link.
+    /// Returns this link.
     #[inline(always)]
     pub fn of(link: Link) -> ShortLink
         ensures { result ≡ link }
@@ -168,7 +168,7 @@ impl ShortLink {
         }
     }
 
-    /// The link.
+    /// Returns the link.
     #[inline(always)]
     pub fn link(&self) -> Link
         ensures { result ≡ self.now }
@@ -181,7 +181,7 @@ impl ShortLink {
         }
     }
 
-    /// Changes one part of the link, and leaves the others where they stand.
+    /// Changes one part of the link, and leaves the others where they are.
     #[inline(always)]
     pub fn change(&mut self, change: Change)
         ensures { self.new ≡ changed change self.old }
@@ -198,7 +198,7 @@ impl ShortLink {
         }
     }
 
-    /// What stands where there is no link yet.
+    /// Returns what is where there is no link yet.
     pub fn blank() -> ShortLink
         ensures { result ≡ record { settled = false; scheduled = false; before = None; next = None } }
     {

@@ -19,45 +19,45 @@ ghost use Rattle.boc_runs.specs.machine.Turns.{Driven, TakesTurn, Turn, Turns};
 ghost use Rattle.boc_runs.specs.machine.Movers.{SomebodyCanStep};
 ghost use Rattle.boc_machine_laws.specs.Allowed.{AllowsStep, IsFull};
 
-/// Each step leads from a sound state to a sound one.
+/// Proves that each step leads from a sound state to a sound one.
 pub fn steps_keep()
     ensures { (p : Program) (s t : State) (step : Step) → IsSound p s → Makes p s step t → IsSound p t }
 {}
 
-/// Whatever steps are made from a sound state, one after the other, the state stays sound, and the log a run of the
+/// Proves that whatever steps are made from a sound state, one after the other, the state stays sound, and the log a run of the
 /// program.
 pub fn every_schedule()
     ensures sound { (p : Program) (s t : State) → IsSound p s → Reaches p s t → IsSound p t }
     ensures run { (p : Program) (s t : State) → IsSound p s → Reaches p s t → IsRun p t.log }
 {}
 
-/// The opening state is sound.
+/// Proves that the opening state is sound.
 pub fn opening_is_sound()
     ensures { (p : Program) → IsSound p (opening_state p) }
 {}
 
-/// Where all is over, the log is a whole run of the program.
+/// Proves that where all has ended, the log is a whole run of the program.
 pub fn quiet_is_whole()
     ensures { (p : Program) (s : State) → IsSound p s → IsQuiet s → IsWholeRun p s.log }
 {}
 
-/// Where all is over, as many steps were made as the log's rows take.
+/// Proves that where all has ended, as many steps were made as the log's rows take.
 pub fn quiet_has_all_steps()
     ensures { (p : Program) (s : State) → IsSound p s → IsQuiet s → s.steps ≡ steps_of_rows (cowns_of_rows s.log) }
 {}
 
-/// Each row of a run that ends does so as in the serial run along the rows of the log.
+/// Proves that each row of a run that ends does so as in the serial run along the rows of the log.
 pub fn ends_are_serial()
     ensures { (p : Program) (log : List Event) → IsRun p log → EndsSerially p log }
 {}
 
-/// After a whole run the cowns have the values of the serial run along the rows of its log.
+/// Proves that after a whole run the cowns have the values of the serial run along the rows of its log.
 pub fn values_are_serial()
     ensures { (p : Program) (log : List Event) → IsWholeRun p log
         → (config_of p log).values ≡ (serial_of_log p log).values }
 {}
 
-/// From a sound state a worker has at most one turn, and so at most one list of turns.
+/// Proves that from a sound state a worker has at most one turn, and so at most one list of turns.
 pub fn one_turn()
     ensures turn { (p : Program) (d e f : Driven) (worker : ℕ) → IsSound p d.state
         → Turn p d worker e → Turn p d worker f → e ≡ f }
@@ -65,13 +65,13 @@ pub fn one_turn()
         → Turns p d workers e → Turns p d workers f → e ≡ f }
 {}
 
-/// A turn leads from a sound state to a sound one.
+/// Proves that a turn leads from a sound state to a sound one.
 pub fn turns_keep()
     ensures { (p : Program) (d e : Driven) (workers : List ℕ) → IsSound p d.state → Turns p d workers e
         → IsSound p e.state }
 {}
 
-/// Where a row's next wish is due, and there are as many rows and unrecorded enqueues as rows may be, the worker that
+/// Proves that where a row's next wish comes next, and there are as many rows and unrecorded enqueues as rows may be, the worker that
 /// serves the row has no turn.
 pub fn full_has_no_turn()
     ensures { (p : Program) (s t : State) (row : ℕ) (wish : Wish) (served : Option ℕ) → IsSound p s
@@ -80,28 +80,28 @@ pub fn full_has_no_turn()
         → TakesTurn p s (Some row) t served → ⊥ }
 {}
 
-/// Where nobody can step, all is over: no sound state is stuck.
+/// Proves that where no worker can step, all has ended: no sound state is stuck.
 pub fn none_is_stuck()
     ensures { (p : Program) (s : State) → IsSound p s → (SomebodyCanStep p s → ⊥) → IsQuiet s }
 {}
 
-/// Where not all is over, some step is allowed; or a row's next wish is due, and there is no room for it, as there are as many
+/// Proves that where not all has ended, some step is allowed; or a row's next wish comes next, and there is no space for it, as there are as many
 /// rows and unrecorded enqueues as rows may be.
 pub fn some_step_is_allowed()
     ensures { (p : Program) (s : State) → IsSound p s → (IsQuiet s → ⊥) → AllowsStep p s ⊎ IsFull p s }
 {}
 
-/// There are never more steps than 36 for each row that there may be.
+/// Proves that there are never more steps than 36 for each row that there may be.
 pub fn steps_are_few()
     ensures { (p : Program) (s : State) → IsSound p s → s.steps ≤ 36 * MOST_ROWS }
 {}
 
-/// A whole run is over by the rules of records too.
+/// Proves that a whole run is over by the rules of records too.
 pub fn whole_is_complete()
     ensures { (p : Program) (log : List Event) → IsWholeRun p log → IsComplete log }
 {}
 
-/// The rows of a record have the cowns and the parents of the rows of its log.
+/// Proves that the rows of a record have the cowns and the parents of the rows of its log.
 pub fn records_have_rows()
     ensures cowns { (log : List Event) (rows : List Row) → AreRowsOf (entries log) rows
         → map (λ r. r.cowns.items) rows ≡ cowns_of_rows log }

@@ -22,7 +22,7 @@ impl RunSoFar {
     ghost use Rattle.boc_rules.specs.Before.{IsOverAt};
     ghost use Rattle.boc_rules.specs.Judges.{Judges};
 
-    /// The event keeps every rule, or this is the first that it breaks.
+    /// Checks that the event keeps every rule, and otherwise returns the first that it breaks.
     pub fn judge(&self, event: &Event) -> Result<(), BrokenRule>
         requires { IsRunSoFar self.now }
         ensures { Judges self.now.cowns (so_far self.now) event.now result }
@@ -97,7 +97,7 @@ impl RunSoFar {
         Ok(())
     }
 
-    // What has become of the row, if it is there.
+    // Returns what has become of the row, if it is there.
     fn life(&self, row: u32) -> Option<Life>
         requires { IsRunSoFar self.now }
         ensures { option_map meant result ≡ life_of (so_far self.now) row }
@@ -105,7 +105,7 @@ impl RunSoFar {
         Some(self.kept_rows.get(row as usize)?.life)
     }
 
-    // The offset of the row's last child; 0 where it has none, or isn't there.
+    // Returns the offset of the row's last child; 0 where it has none, or isn't there.
     fn last(&self, row: u32) -> u32
         requires { IsRunSoFar self.now }
         ensures { result ≡ last_of (so_far self.now) row }
@@ -116,7 +116,7 @@ impl RunSoFar {
         }
     }
 
-    // The row is there and runs.
+    // Returns whether the row is there and runs.
     fn is_running(&self, row: u32) -> bool
         requires { IsRunSoFar self.now }
         ensures { IsTrue result ↔ (life_of (so_far self.now) row ≡ Some Running) }
@@ -124,7 +124,7 @@ impl RunSoFar {
         matches!(self.life(row), Some(Life::Running))
     }
 
-    // The next row may have this parent.
+    // Returns whether the next row may have this parent.
     fn is_parent(&self, parent: u32) -> bool
         requires { IsRunSoFar self.now }
         ensures { IsTrue result ↔ IsParent (so_far self.now) parent }
@@ -136,7 +136,7 @@ impl RunSoFar {
         }
     }
 
-    // The next row may have this offset.
+    // Returns whether the next row may have this offset.
     fn is_offset(&self, parent: u32, offset: u32) -> bool
         requires { IsRunSoFar self.now }
         ensures { IsTrue result ↔ IsOffset (so_far self.now) parent offset }
@@ -148,7 +148,7 @@ impl RunSoFar {
         }
     }
 
-    // The next row may have these cowns.
+    // Returns whether the next row may have these cowns.
     fn may_need(&self, cowns: &[u32]) -> bool
         requires { IsRunSoFar self.now }
         ensures { IsTrue result ↔ MayNeed self.now.cowns (so_far self.now) cowns.now }
@@ -160,7 +160,7 @@ impl RunSoFar {
         }
     }
 
-    // The row waits, and on each of its cowns the row before it is over.
+    // Returns whether the row waits, and on each of its cowns the row before it has ended.
     fn may_start(&self, row: u32) -> bool
         requires { IsRunSoFar self.now }
         ensures { IsTrue result ↔ MayStart (life_of (so_far self.now)) (entry_cowns (so_far self.now)) row }
@@ -176,7 +176,7 @@ impl RunSoFar {
         }
     }
 
-    // All of these rows are over.
+    // Returns whether all of these rows have ended.
     fn are_over(&self, rows: &[MaybeRow]) -> bool
         requires { IsRunSoFar self.now }
         ensures { IsTrue result ↔ All (IsOverAt (so_far self.now)) rows.now }
@@ -191,7 +191,7 @@ impl RunSoFar {
         true
     }
 
-    /// The cowns of the row, if it is there.
+    /// Returns the cowns of the row, if it is there.
     pub fn cowns_of(&self, row: u32) -> Option<&HeldCowns>
         requires { IsRunSoFar self.now }
         ensures { MatchOption result (length (so_far self.now) ≤ row)
@@ -211,7 +211,7 @@ impl RunSoFar {
         }
     }
 
-    // The row runs, these ticks reach its last child's spawn, and what was written is its own.
+    // Returns whether the row runs, these ticks reach its last child's spawn, and what was written is its own.
     fn may_end(&self, row: u32, ticks: u32, written: &[u32]) -> bool
         requires { IsRunSoFar self.now }
         ensures { IsTrue result ↔ MayEnd (so_far self.now) row ticks written.now }
@@ -223,7 +223,7 @@ impl RunSoFar {
             && self.are_own(row, written)
     }
 
-    /// There is a row, and all rows have ended.
+    /// Returns whether there is a row, and all rows have ended.
     pub fn is_complete(&self) -> bool
         requires { IsRunSoFar self.now }
         ensures { IsTrue result ↔ IsOver (so_far self.now) }

@@ -1,4 +1,4 @@
-// Which rows stand before a row on its cowns.
+// Which rows are before a row on its cowns.
 
 ghost use Rattle.std.specs.Prelude.{◌≡◌, ◌+◌, ◌*◌, ◌<◌, ◌≤◌, ◌++◌, All, None, Some, length, map, slice_index_or, vec_len, vec_capacity};
 ghost use Rattle.boc_program.specs.declared.limits.TheConstants.{MOST_HELD, MOST_ROWS};
@@ -33,14 +33,14 @@ impl Model for MaybeRow {
 }
 
 impl MaybeRow {
-    /// No row.
+    /// Returns no row.
     pub fn none() -> MaybeRow
         ensures { result ≡ None }
     {
         MaybeRow { number: NO_ROW }
     }
 
-    /// This row.
+    /// Returns this row.
     pub fn of(row: u32) -> MaybeRow
         requires { row < MOST_ROWS }
         ensures { result ≡ Some row }
@@ -48,7 +48,7 @@ impl MaybeRow {
         MaybeRow { number: row as u16 }
     }
 
-    /// The row, if it is one.
+    /// Returns the row, if it is one.
     pub fn get(self) -> Option<u32>
         ensures { result ≡ self }
     {
@@ -60,7 +60,7 @@ impl MaybeRow {
     }
 }
 
-// Puts the latest row on each of the cowns, in their order, behind those found.
+// Puts the latest row on each of the cowns, in their order, after those found.
 fn find(found: &mut Vec<MaybeRow>, latest: &[MaybeRow], cowns: &[HeldCown])
     requires cowns { All (λ c. c < length latest.now) cowns.now }
     requires room { vec_len found.old + length cowns.now ≤ vec_capacity found.old }
@@ -83,7 +83,7 @@ fn note(latest: &mut Vec<MaybeRow>, cowns: &[HeldCown], row: u32)
     }
 }
 
-/// The kept_row of a new row over these cowns. The latest row on each of them is put behind those found, and the new row
+/// Returns the kept_row of a new row over these cowns. The latest row on each of them is put after those found, and the new row
 /// is the latest from now on.
 pub fn first_kept_row(
     found: &mut Vec<MaybeRow>,

@@ -19,7 +19,7 @@ pub enum RuleFault {
 
 ghost use Rattle.boc_rules.specs.Faults.{fault_text, rule_line};
 
-// The number and the name of a rule.
+// Returns the number and the name of a rule.
 fn rule_text(rule: BrokenRule) -> &'static str
     ensures { result.now ≡ rule_line rule }
 {
@@ -35,7 +35,7 @@ fn rule_text(rule: BrokenRule) -> &'static str
 }
 
 impl RuleFault {
-    /// The number and the name of the fault, as it is displayed.
+    /// Returns the number and the name of the fault, as it is displayed.
     pub fn text(&self) -> &'static str
         ensures { result.now ≡ fault_text self.now }
     {

@@ -37,7 +37,7 @@ impl Judge {
     ghost use Rattle.boc_rules.specs.Judges.{Judges};
     ghost use Rattle.boc_rules.specs.Course.{stepped, AreLegal, IsOver, Steps, GivesRows};
 
-    /// No rows yet, over this many cowns, and no room for any.
+    /// Makes a judge of no rows yet, over this many cowns, and no space for any.
     pub fn new(alloc: Global, cowns: u32) -> Result<Judge, AllocError>
         requires { cowns ≤ MOST_COWNS }
         ensures { IfOk result (λ j. j ≡ record { cowns = cowns; rows = []; rooms = 0 }) }
@@ -47,7 +47,7 @@ impl Judge {
         })
     }
 
-    /// Takes the event if it keeps the rules, and otherwise answers the first rule that it breaks. Room is made
+    /// Takes the event if it keeps the rules, and otherwise answers the first rule that it breaks. Space is made
     /// for a spawn that finds none, and is refused only where the spawn keeps the rules. Nothing changes after a
     /// refusal. The time goes with the number of the event's cowns, amortised.
     pub fn take(&mut self, event: Event) -> Result<(), RuleFault>
@@ -63,14 +63,14 @@ impl Judge {
         Ok(())
     }
 
-    /// The event keeps every rule, or this is the first that it breaks.
+    /// Checks that the event keeps every rule, and otherwise returns the first that it breaks.
     pub fn judge(&self, event: &Event) -> Result<(), BrokenRule>
         ensures { Judges self.now.cowns self.now.rows event.now result }
     {
         self.run.judge(event)
     }
 
-    /// There is room for the event: each but a spawn has it since its row's spawn.
+    /// Returns whether there is space for the event: each but a spawn has it since its row's spawn.
     pub fn has_room_for(&self, event: &Event) -> bool
         ensures { IsTrue result ↔ HasRoomFor self.now.rooms event.now }
     {
@@ -80,7 +80,7 @@ impl Judge {
         }
     }
 
-    /// Makes room for one more row. Nothing changes where memory is refused. The time is constant, amortised.
+    /// Makes space for one more row. Nothing changes where memory is refused. The time is constant, amortised.
     pub fn make_room(&mut self) -> Result<(), AllocError>
         ensures { MatchResult result (λ _. self.new ≡ record self.old { rooms = self.old.rooms + 1 }) (λ _. self.new ≡ self.old) }
     {
@@ -97,28 +97,28 @@ impl Judge {
         self.run.accept(event);
     }
 
-    /// How many rows there are.
+    /// Returns how many rows there are.
     pub fn count(&self) -> usize
         ensures { result ≡ length self.now.rows }
     {
         self.run.rows.len()
     }
 
-    /// How many rows there is room for that are not spawned yet.
+    /// Returns how many rows there is space for that are not spawned yet.
     pub fn rooms(&self) -> usize
         ensures { result ≡ self.now.rooms }
     {
         self.run.rooms
     }
 
-    /// The cowns of a row, if it is there.
+    /// Returns the cowns of a row, if it is there.
     pub fn cowns_of(&self, row: u32) -> Option<&HeldCowns>
         ensures { MatchOption result (length self.now.rows ≤ row) (λ cowns. (row < length self.now.rows) × (cowns.now.items ≡ entry_cowns self.now.rows row)) }
     {
         self.run.cowns_of(row)
     }
 
-    /// How many cowns there are.
+    /// Returns how many cowns there are.
     pub fn cowns(&self) -> u32
         ensures value { result ≡ self.now.cowns }
         ensures few { result ≤ MOST_COWNS }
@@ -127,21 +127,21 @@ impl Judge {
         self.run.cowns
     }
 
-    /// The rows so far, of which one that hasn't ended has 0 ticks, the status `Done`, and wrote nothing.
+    /// Returns the rows so far, of which one that hasn't ended has 0 ticks, the status `Done`, and wrote nothing.
     pub fn rows(&self) -> &[Row]
         ensures { AreRowsOf self.now.rows result.now }
     {
         self.run.rows.as_slice()
     }
 
-    /// There is a row, and every row has ended.
+    /// Returns whether there is a row, and every row has ended.
     pub fn is_complete(&self) -> bool
         ensures { IsTrue result ↔ IsOver self.now.rows }
     {
         self.run.is_complete()
     }
 
-    /// The rows of the run where it is complete; otherwise the judge comes back unchanged. It takes no memory.
+    /// Returns the rows of the run where it is complete; otherwise the judge comes back unchanged. It takes no memory.
     pub fn into_rows(self) -> Result<Rows, Judge>
         ensures { GivesRows self result }
     {

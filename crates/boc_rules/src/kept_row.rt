@@ -8,7 +8,7 @@ pub enum Life {
     Ended,
 }
 
-/// What is kept of a row until its run is over.
+/// What is kept of a row until its run has ended.
 #[derive(Drop, Debug)]
 pub struct KeptRow {
     pub life: Life,

@@ -39,7 +39,7 @@ impl Rules {
     ghost use Rattle.boc_rules.specs.Course.{course_of};
     ghost use Rattle.boc_rules.specs.Rules.{Applies, Records};
 
-    /// No rows yet, over this many cowns, and no room for any.
+    /// Makes rules of no rows yet, over this many cowns, and no space for any.
     pub fn new(alloc: Global, cowns: u32) -> Result<Rules, AllocError>
         requires { cowns ≤ MOST_COWNS }
         ensures { IfOk result (λ r. r ≡ record { cowns = cowns; events = []; rooms = 0 }) }
@@ -50,7 +50,7 @@ impl Rules {
         })
     }
 
-    /// Takes the event if it keeps the rules, and otherwise answers the first rule that it breaks. Room is made for
+    /// Takes the event if it keeps the rules, and otherwise answers the first rule that it breaks. Space is made for
     /// a spawn that finds none, and is refused only where the spawn keeps the rules. Nothing changes after a
     /// refusal. The time goes with the number of the event's cowns, amortised.
     pub fn apply(&mut self, event: &Event) -> Result<(), RuleFault>
@@ -59,7 +59,7 @@ impl Rules {
         self.take(event.duplicate())
     }
 
-    /// The same, for an event that is handed over.
+    /// Does the same for an event that is handed over.
     pub fn take(&mut self, event: Event) -> Result<(), RuleFault>
         ensures { Applies self.old event result self.new }
     {
@@ -73,7 +73,7 @@ impl Rules {
         Ok(())
     }
 
-    /// Makes room for one more row: for its spawn, its start and its end. Nothing changes where memory is refused.
+    /// Makes space for one more row: for its spawn, its start and its end. Nothing changes where memory is refused.
     /// The time is constant, amortised.
     pub fn make_room(&mut self) -> Result<(), AllocError>
         ensures { MatchResult result (λ _. self.new ≡ record self.old { rooms = self.old.rooms + 1 }) (λ _. self.new ≡ self.old) }
@@ -83,14 +83,14 @@ impl Rules {
         self.judge.make_room()
     }
 
-    /// How many rows there is room for that are not spawned yet.
+    /// Returns how many rows there is space for that are not spawned yet.
     pub fn rooms(&self) -> usize
         ensures { result ≡ self.now.rooms }
     {
         self.judge.rooms()
     }
 
-    /// Puts an event that keeps the rules behind the others. For a spawn there must be room, which it takes. It takes
+    /// Puts an event that keeps the rules after the others. For a spawn there must be room, which it takes. It takes
     /// no memory, and judges nothing.
     pub fn put(&mut self, event: Event)
         requires allowed { IsAllowed self.old.cowns (entries self.old.events) event }
@@ -101,14 +101,14 @@ impl Rules {
         self.judge.put(event);
     }
 
-    /// The run as it is judged, without its events.
+    /// Returns the run as it is judged, without its events.
     pub fn judge(&self) -> &Judge
         ensures { result.now ≡ course_of self.now }
     {
         &self.judge
     }
 
-    /// The cowns of a row, if it is there.
+    /// Returns the cowns of a row, if it is there.
     pub fn cowns_of(&self, row: u32) -> Option<&HeldCowns>
         ensures { MatchOption result (length (entries self.now.events) ≤ row)
             (λ cowns. (row < length (entries self.now.events)) × (cowns.now.items ≡ entry_cowns (entries self.now.events) row)) }
@@ -116,7 +116,7 @@ impl Rules {
         self.judge.cowns_of(row)
     }
 
-    /// How many cowns there are.
+    /// Returns how many cowns there are.
     pub fn cowns(&self) -> u32
         ensures value { result ≡ self.now.cowns }
         ensures few { result ≤ MOST_COWNS }
@@ -125,7 +125,7 @@ impl Rules {
         self.judge.cowns()
     }
 
-    /// The events so far.
+    /// Returns the events so far.
     pub fn events(&self) -> Events<'_>
         ensures value { result ≡ self.now.events }
         ensures legal { IsLegal self.now.cowns self.now.events }
@@ -133,14 +133,14 @@ impl Rules {
         Events::new(self.happenings.as_slice(), self.judge.rows())
     }
 
-    /// There is a row, and every row has ended.
+    /// Returns whether there is a row, and every row has ended.
     pub fn is_complete(&self) -> bool
         ensures { IsTrue result ↔ IsComplete self.now.events }
     {
         self.judge.is_complete()
     }
 
-    /// The record of the run where it is complete; otherwise the rules come back unchanged. It takes no memory.
+    /// Returns the record of the run where it is complete; otherwise the rules come back unchanged. It takes no memory.
     pub fn into_record(self) -> Result<Record, Rules>
         ensures { Records self result }
     {

@@ -13,7 +13,7 @@ use boc_runs::rows::{Row, Rows};
 use std::alloc::{AllocError, Global};
 use std::marker::Model;
 
-/// The events of a run so far, none of which is judged: whoever puts one knows that it is allowed. They keep the rules of
+/// The events of a run so far, none of which is judged: a caller that puts one knows that it is allowed. They keep the rules of
 /// runs over a number of cowns, which is at most 256.
 #[derive(Drop, Debug)]
 pub struct RunLog {
@@ -21,7 +21,7 @@ pub struct RunLog {
     /// The rows in the order of their spawns. A row that hasn't ended has 0 ticks, the status `Done`, and wrote nothing.
     rows: Vec<Row>,
     happenings: Vec<Happening>,
-    /// How many more rows there is room for.
+    /// How many more rows there is space for.
     rooms: usize,
 }
 
@@ -39,7 +39,7 @@ impl Model for RunLog {
     ghost invariant = { λ l. IsRunLog l.cowns l.rows.items l.happenings.items l.rooms (vec_capacity l.rows) (vec_capacity l.happenings) };
 }
 
-// Keeps what the rows have to tell of an event, for which there is room.
+// Keeps what the rows have to report on an event, for which there is room.
 fn keep(rows: &mut Vec<Row>, rooms: &mut usize, event: Event)
     requires can { CanKeep rows.old.items event }
     requires has { HasRoomFor rooms.old event }
@@ -79,7 +79,7 @@ impl RunLog {
     ghost use Rattle.boc_rules.specs.Log.{grown};
     ghost use Rattle.boc_rules.specs.Rules.{Records};
 
-    /// No rows yet, over this many cowns, and no room for any.
+    /// Makes a log of no rows yet, over this many cowns, and no space for any.
     pub fn new(alloc: Global, cowns: u32) -> Result<RunLog, AllocError>
         requires { cowns ≤ MOST_COWNS }
         ensures { IfOk result (λ l. l ≡ record { cowns = cowns; events = []; rooms = 0 }) }
@@ -92,7 +92,7 @@ impl RunLog {
         })
     }
 
-    /// Makes room for one more row: for its spawn, its start and its end. Nothing changes where memory is refused.
+    /// Makes space for one more row: for its spawn, its start and its end. Nothing changes where memory is refused.
     /// The time is constant, amortised.
     pub fn make_room(&mut self) -> Result<(), AllocError>
         ensures { MatchResult result (λ _. self.new ≡ record self.old { rooms = self.old.rooms + 1 }) (λ _. self.new ≡ self.old) }
@@ -104,7 +104,7 @@ impl RunLog {
         Ok(())
     }
 
-    /// Puts an event that keeps the rules behind the others. For a spawn there must be room, which it takes. It takes
+    /// Puts an event that keeps the rules after the others. For a spawn there must be room, which it takes. It takes
     /// no memory, and judges nothing.
     pub fn put(&mut self, event: Event)
         requires allowed { IsAllowed self.old.cowns (entries self.old.events) event }
@@ -115,7 +115,7 @@ impl RunLog {
         keep(&mut self.rows, &mut self.rooms, event);
     }
 
-    /// The events so far.
+    /// Returns the events so far.
     pub fn events(&self) -> Events<'_>
         ensures value { result ≡ self.now.events }
         ensures legal { IsLegal self.now.cowns self.now.events }
@@ -131,7 +131,7 @@ impl RunLog {
         rows > 0 && self.happenings.len() == MOST_EVENTS * rows
     }
 
-    /// The record of the run where it is complete; otherwise the log comes back unchanged. It takes no memory.
+    /// Returns the record of the run where it is complete; otherwise the log comes back unchanged. It takes no memory.
     pub fn into_record(self) -> Result<Record, RunLog>
         ensures { Records self result }
     {

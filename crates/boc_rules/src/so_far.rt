@@ -26,7 +26,7 @@ pub struct RunSoFar {
     pub latest: Vec<MaybeRow>,
     /// How many rows have ended.
     pub ended: u32,
-    /// How many more rows there is room for.
+    /// How many more rows there is space for.
     pub rooms: usize,
 }
 
@@ -36,7 +36,7 @@ impl RunSoFar {
     ghost use Rattle.boc_rules.specs.Log.{HasRoomFor, rooms_after};
     ghost use Rattle.boc_rules.specs.SoFar.{IsRunSoFar, HasRooms, so_far, IsSameRun, IsSpawned, IsStarted, IsEnded};
 
-    /// A run with no rows yet.
+    /// Returns a run with no rows yet.
     pub fn new(alloc: Global, cowns: u32) -> Result<RunSoFar, AllocError>
         requires { cowns ≤ MOST_COWNS }
         ensures { IfOk result (λ r. IsRunSoFar r × HasRooms r × (r.cowns ≡ cowns) × (so_far r ≡ []) × (r.rooms ≡ 0)) }
@@ -56,7 +56,7 @@ impl RunSoFar {
         })
     }
 
-    /// Makes room for one more row.
+    /// Makes space for one more row.
     pub fn make_room(&mut self) -> Result<(), AllocError>
         requires kept { IsRunSoFar self.old }
         requires has { HasRooms self.old }
@@ -102,7 +102,7 @@ impl RunSoFar {
         }
     }
 
-    // A new row, behind the others.
+    // A new row, after the others.
     fn spawn(&mut self, row: u32, parent: u32, offset: u32, cowns: HeldCowns)
         requires cowns { All (λ c. c < length self.old.latest.items) cowns.items }
         requires held { length cowns.items ≤ MOST_HELD }
@@ -132,7 +132,7 @@ impl RunSoFar {
         self.kept_rows[row as usize].life = Life::Running;
     }
 
-    // The row is over.
+    // The row has ended.
     fn end(&mut self, row: u32, ticks: u32, status: EndStatus, written: HeldCowns)
         requires kept { row < length self.old.kept_rows.items }
         requires placed { row < length self.old.rows.items }

@@ -21,7 +21,7 @@ pub enum Event {
     Start {
         row: u32,
     },
-    /// The row ended after so many ticks, and gave its cowns back. `written` are those that an assignment wrote,
+    /// The row ended after this many ticks, and gave its cowns back. `written` are those that an assignment wrote,
     /// whether or not the value changed; they are meant to rise strictly.
     End {
         row: u32,
@@ -32,7 +32,7 @@ pub enum Event {
 }
 
 impl Event {
-    /// The same event once more. It takes no memory.
+    /// Returns the same event once more. It takes no memory.
     pub fn duplicate(&self) -> Event
         ensures { result ≡ self.now }
     {

@@ -1,4 +1,4 @@
-// The events of a run as they are kept: four bytes each, beside the rows, which tell the rest.
+// The events of a run as they are kept: four bytes each, with the rows, which report the rest.
 
 ghost use Rattle.std.specs.Prelude.{◌≡◌, ◌<◌, ◌↔◌, [], IsTrue, Some, length, slice_get};
 ghost use Rattle.boc_program.specs.declared.limits.TheConstants.{MOST_ROWS};
@@ -16,14 +16,14 @@ pub enum Deed {
     Ended,
 }
 
-/// An event without what its row tells: which row it is, and what became of it.
+/// An event without what its row reports: which row it is, and what became of it.
 #[derive(Clone, Copy, Debug)]
 pub struct Happening {
     pub row: u16,
     pub deed: Deed,
 }
 
-/// Events in their order. Each is made from its row as it is asked for.
+/// Events in their order. Each is made from its row as it is requested.
 #[derive(Drop, Debug)]
 pub struct Events<'a> {
     happenings: &'a [Happening],
@@ -44,7 +44,7 @@ impl<'a> Model for Events<'a> {
 }
 
 impl Happening {
-    /// What is kept of an event beside its row.
+    /// Returns what is kept of an event with its row.
     pub fn of(event: &Event) -> Happening
         requires { row_in event.now < MOST_ROWS }
         ensures { result ≡ happening_of event.now }
@@ -60,7 +60,7 @@ impl Happening {
         }
     }
 
-    // The event that this is, of its row.
+    // Returns the event that this is, of its row.
     fn event(self, row: &Row) -> Event
         ensures { result ≡ event_of self.row row.now self.deed }
     {
@@ -84,7 +84,7 @@ impl Happening {
 }
 
 impl<'a> Events<'a> {
-    /// What these happenings tell of these rows, in their order.
+    /// Returns what these happenings report on these rows, in their order.
     pub fn new(happenings: &'a [Happening], rows: &'a [Row]) -> Events<'a>
         requires { AreOf happenings.now rows.now }
         ensures { result ≡ told happenings.now rows.now }
@@ -92,21 +92,21 @@ impl<'a> Events<'a> {
         Events { happenings, rows }
     }
 
-    /// How many events there are.
+    /// Returns how many events there are.
     pub fn len(&self) -> usize
         ensures { result ≡ length self.now }
     {
         self.happenings.len()
     }
 
-    /// There is no event.
+    /// Returns whether there is no event.
     pub fn is_empty(&self) -> bool
         ensures { IsTrue result ↔ (self.now ≡ []) }
     {
         self.happenings.is_empty()
     }
 
-    /// The event at a place. The time goes with the number of its cowns.
+    /// Returns the event at a place. The time goes with the number of its cowns.
     #[tactic(auto, using(crate::proofs::Tellings::told_all))]
     pub fn get(&self, place: usize) -> Event
         requires { place < length self.now }

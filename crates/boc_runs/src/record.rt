@@ -34,7 +34,7 @@ impl Record {
     ghost use Rattle.boc_runs.specs.Happenings.{told, AreOf};
     ghost use Rattle.boc_runs.specs.Records.{IsRecord};
 
-    /// The record of a complete run that keeps the rules, with its rows, of which the happenings tell its events. It takes no
+    /// Returns the record of a complete run that keeps the rules, with its rows, of which the happenings report its events. It takes no
     /// memory.
     pub fn new(cowns: u32, happenings: Vec<Happening>, rows: Rows) -> Record
         requires rows { AreOf happenings.items rows }
@@ -50,7 +50,7 @@ impl Record {
         }
     }
 
-    /// How many cowns there are.
+    /// Returns how many cowns there are.
     pub fn cowns(&self) -> u32
         ensures value { result ≡ self.now.cowns }
         ensures run { IsRecord self.now }
@@ -58,7 +58,7 @@ impl Record {
         self.cowns
     }
 
-    /// The events in their order.
+    /// Returns the events in their order.
     pub fn events(&self) -> Events<'_>
         ensures value { result ≡ self.now.events }
         ensures run { IsRecord self.now }
@@ -66,7 +66,7 @@ impl Record {
         Events::new(self.happenings.as_slice(), self.rows.as_slice())
     }
 
-    /// The rows, main first.
+    /// Returns the rows, main first.
     pub fn rows(&self) -> &Rows
         ensures value { result.now ≡ self.now.rows }
         ensures run { IsRecord self.now }

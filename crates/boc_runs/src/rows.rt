@@ -61,7 +61,7 @@ impl Model for Rows {
 impl Row {
     ghost use Rattle.boc_runs.specs.Changes.{freed_row};
 
-    /// The same row once more. It takes no memory.
+    /// Returns the same row once more. It takes no memory.
     pub fn duplicate(&self) -> Row
         ensures { result ≡ self.now }
     {
@@ -75,7 +75,7 @@ impl Row {
         }
     }
 
-    /// The same row without a cown. It takes no memory.
+    /// Returns the same row without a cown. It takes no memory.
     pub fn without(&self, cown: HeldCown) -> Row
         ensures { result ≡ freed_row cown self.now }
     {
@@ -90,7 +90,7 @@ impl Row {
     }
 }
 
-// So many ticks times `over / under`, rounded up.
+// Returns the given number of ticks times `over / under`, rounded up.
 fn part(ticks: u32, over: u32, under: u32) -> u64
     requires { 0 < under }
     ensures { result ≡ part_of over under ticks }
@@ -98,7 +98,7 @@ fn part(ticks: u32, over: u32, under: u32) -> u64
     (u64::from(ticks) * u64::from(over)).div_ceil(u64::from(under))
 }
 
-// The ticks of a row that costs `over / under` of what it did. Its children's offsets are that part of theirs, and rise.
+// Returns the ticks of a row that costs `over / under` of what it did. Its children's offsets are that part of theirs, and rise.
 fn scaled_ticks(rows: &[Row], row: usize, over: u32, under: u32, siblings: &Siblings) -> u64
     requires shape { IsRows rows.now }
     requires there { row < length rows.now }
@@ -141,7 +141,7 @@ impl Rows {
     ghost use Rattle.boc_runs.specs.Rows.{Fits, edited};
     ghost use Rattle.boc_runs.specs.Changes.{FitsAt, moved, without};
 
-    /// These rows, main first. It takes no memory.
+    /// Makes rows of these, main first. It takes no memory.
     pub fn new(list: Vec<Row>) -> Rows
         requires { IsRows list.items }
         ensures { result ≡ list.items }
@@ -149,7 +149,7 @@ impl Rows {
         Rows { list }
     }
 
-    /// The rows in the order of their numbers.
+    /// Returns the rows in the order of their numbers.
     pub fn as_slice(&self) -> &[Row]
         ensures same { result.now ≡ self.now }
         ensures shape { IsRows self.now }
@@ -157,7 +157,7 @@ impl Rows {
         self.list.as_slice()
     }
 
-    /// The same rows once more. `AllocError` says that memory was refused.
+    /// Returns the same rows once more. `AllocError` says that memory was refused.
     pub fn copy(&self, alloc: Global) -> Result<Rows, AllocError>
         ensures { IfOk result (λ rows. rows ≡ self.now) }
     {
@@ -168,7 +168,7 @@ impl Rows {
         Ok(Rows { list })
     }
 
-    /// Has a row take so many ticks, from 1 to 1,000,000 and no fewer than the offset of its last child. It takes
+    /// Makes a row take this many ticks, from 1 to 1,000,000 and no fewer than the offset of its last child. It takes
     /// no memory.
     pub fn set_ticks(&mut self, row: u32, ticks: u32)
         requires { Fits self.old row ticks }
@@ -177,7 +177,7 @@ impl Rows {
         self.list[row as usize].ticks = ticks;
     }
 
-    /// Has a row other than main be spawned at this tick of its parent: above its elder sibling's offset, 1 at least, below its younger
+    /// Makes a row other than main be spawned at this tick of its parent: above its earlier sibling's offset, 1 at least, below its later
     /// sibling's, and at most its parent's ticks. It takes no memory.
     pub fn set_offset(&mut self, row: u32, offset: u32)
         requires { FitsAt self.old row offset }
@@ -186,8 +186,8 @@ impl Rows {
         self.list[row as usize].offset = offset;
     }
 
-    /// Has a row cost `over / under` of what it did, rounded up, and spawn its children so much sooner or later: an offset is at least one
-    /// above the elder sibling's, and the ticks are 1 at least and no fewer than the last child's offset. Answers whether the row can; where it
+    /// Makes a row cost `over / under` of what it did, rounded up, and spawn its children this much sooner or later: an offset is at least one
+    /// above the earlier sibling's, and the ticks are 1 at least and no fewer than the last child's offset. Answers whether the row can; where it
     /// would take more than 1,000,000 ticks it can't, and nothing changes. It takes no memory, and time that grows with the row's children.
     pub fn scale(&mut self, row: u32, over: u32, under: u32, siblings: &Siblings) -> bool
         requires there { row < length self.old }
@@ -212,7 +212,7 @@ impl Rows {
         true
     }
 
-    /// The same rows, none of which has this cown. `AllocError` says that memory was refused.
+    /// Returns the same rows, none of which has this cown. `AllocError` says that memory was refused.
     pub fn without(&self, alloc: Global, cown: HeldCown) -> Result<Rows, AllocError>
         ensures { IfOk result (λ rows. rows ≡ without cown self.now) }
     {

@@ -7,7 +7,7 @@ use crate::rows::Row;
 use boc_program::cowns::{are_among, are_cowns};
 use boc_program::limits::{MOST_COWNS, MOST_ROWS, MOST_TICKS};
 
-/// Whether these have the shape of the rows of a finished run, main first. It takes no memory, and goes over the
+/// Returns whether these have the shape of the rows of a finished run, main first. It takes no memory, and goes over the
 /// rows once.
 pub fn are_rows(rows: &[Row]) -> bool
     ensures { IsTrue result ↔ IsRows rows.now }
@@ -18,7 +18,7 @@ pub fn are_rows(rows: &[Row]) -> bool
     are_fit(rows, &mut [0; MOST_ROWS])
 }
 
-// Whether each row can stand after those before it. `last` keeps the offset of the last child so far of each row,
+// Returns whether each row can be after those before it. `last` keeps the offset of the last child so far of each row,
 // and 0 where it has none.
 fn are_fit(rows: &[Row], last: &mut [u32]) -> bool
     requires whole { length rows.now ≤ length last.old }
@@ -34,7 +34,7 @@ fn are_fit(rows: &[Row], last: &mut [u32]) -> bool
     true
 }
 
-// Whether the row of this number can stand after those before it.
+// Returns whether the row of this number can be after those before it.
 fn is_fit(rows: &[Row], number: usize, last: &[u32]) -> bool
     requires there { number < length rows.now }
     requires whole { length rows.now ≤ length last.now }
@@ -56,7 +56,7 @@ fn is_fit(rows: &[Row], number: usize, last: &[u32]) -> bool
     }
 }
 
-// Whether the row of this number can stand after those before it as a child of one of them.
+// Returns whether the row of this number can be after those before it as a child of one of them.
 fn is_fit_child(rows: &[Row], number: usize, last: &[u32]) -> bool
     requires there { number < length rows.now }
     requires whole { length rows.now ≤ length last.now }

@@ -7,22 +7,22 @@ ghost use Rattle.boc_runs.specs.Siblings.{AreElders, AreSiblings, AreYoungers};
 use crate::rows::Row;
 use std::alloc::{AllocError, Global};
 
-/// Which rows are siblings: for each row its first and its last child, its elder and its younger sibling.
+/// Which rows are siblings: for each row its first and its last child, its earlier and its later sibling.
 ///
 /// No edit changes a row's parent, so siblings stay siblings while rows change.
 #[derive(Drop)]
 pub struct Siblings {
     // The first child of each row, or the number of rows where it has none.
     firsts: Vec<u32>,
-    // The last child of each row, or 0 where it has none: row 0 is nobody's child.
+    // The last child of each row, or 0 where it has none: row 0 is no row's child.
     lasts: Vec<u32>,
-    // The elder sibling of each row, or 0.
+    // The earlier sibling of each row, or 0.
     elders: Vec<u32>,
-    // The younger sibling of each row, or the number of rows. That of main is not read.
+    // The later sibling of each row, or the number of rows. That of main is not read.
     youngers: Vec<u32>,
 }
 
-// For each row its last child, and its elder sibling.
+// Returns for each row its last child, and its earlier sibling.
 fn last_children(alloc: Global, rows: &[Row]) -> Result<(Vec<u32>, Vec<u32>), AllocError>
     requires { IsRows rows.now }
     ensures { IfOk result (λ found. AreElders rows.now found.0.items found.1.items) }
@@ -37,7 +37,7 @@ fn last_children(alloc: Global, rows: &[Row]) -> Result<(Vec<u32>, Vec<u32>), Al
     Ok((lasts, elders))
 }
 
-// For each row its first child, and for each but main its younger sibling.
+// Returns for each row its first child, and for each but main its later sibling.
 fn first_children(alloc: Global, rows: &[Row]) -> Result<(Vec<u32>, Vec<u32>), AllocError>
     requires { IsRows rows.now }
     ensures { IfOk result (λ found. AreYoungers rows.now found.0.items found.1.items) }
@@ -56,7 +56,7 @@ fn first_children(alloc: Global, rows: &[Row]) -> Result<(Vec<u32>, Vec<u32>), A
 }
 
 impl Siblings {
-    /// Which of these rows are siblings. `AllocError` says that memory was refused.
+    /// Returns which of these rows are siblings. `AllocError` says that memory was refused.
     ///
     /// It goes over the rows twice, and takes 16 bytes for each.
     pub fn of(alloc: Global, rows: &[Row]) -> Result<Siblings, AllocError>
@@ -73,7 +73,7 @@ impl Siblings {
         })
     }
 
-    /// The first child of a row, or the number of rows where it has none.
+    /// Returns the first child of a row, or the number of rows where it has none.
     pub fn first_child(&self, row: usize) -> usize
         requires { row < length self.now.firsts.items }
         ensures { result ≡ slice_index self.now.firsts.items row }
@@ -81,7 +81,7 @@ impl Siblings {
         self.firsts[row] as usize
     }
 
-    /// The last child of a row, or 0 where it has none: row 0 is nobody's child.
+    /// Returns the last child of a row, or 0 where it has none: row 0 is no row's child.
     pub fn last_child(&self, row: usize) -> usize
         requires { row < length self.now.lasts.items }
         ensures { result ≡ slice_index self.now.lasts.items row }
@@ -89,7 +89,7 @@ impl Siblings {
         self.lasts[row] as usize
     }
 
-    /// The elder sibling of a row, or 0 where it has none.
+    /// Returns the earlier sibling of a row, or 0 where it has none.
     pub fn elder(&self, row: usize) -> usize
         requires { row < length self.now.elders.items }
         ensures { result ≡ slice_index self.now.elders.items row }
@@ -97,7 +97,7 @@ impl Siblings {
         self.elders[row] as usize
     }
 
-    /// The younger sibling of a row other than main, or the number of rows where it has none.
+    /// Returns the later sibling of a row other than main, or the number of rows where it has none.
     pub fn younger(&self, row: usize) -> usize
         requires { row < length self.now.youngers.items }
         ensures { result ≡ slice_index self.now.youngers.items row }

@@ -10,7 +10,7 @@ pub enum Phase {
     Owning,
     /// A request isn't granted yet.
     Waiting,
-    /// All requests are granted: it stands in the ready list.
+    /// All requests are granted: it is in the ready list.
     Ready,
     /// Its body is under way.
     Running,

@@ -9,9 +9,9 @@ pub enum Step {
     Swap(usize),
     /// The request is settled; with the last one the spawn is recorded.
     Settle(usize),
-    /// The request is flagged, so that the one behind it may be settled.
+    /// The request is flagged, so that the one after it may be settled.
     Flag(usize),
-    /// The enqueue is over: the behaviour is ready, or waits.
+    /// The enqueue has ended: the behaviour is ready, or waits.
     Own,
     /// The first of the ready list starts.
     Start,

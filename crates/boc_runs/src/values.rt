@@ -10,7 +10,7 @@ use boc_program::cown::Cown;
 use boc_program::short::{CownNo, Input, Inputs};
 use std::alloc::{AllocError, Global};
 
-/// The values of a program's cowns at the start, in the order of their numbers.
+/// Returns the values of a program's cowns at the start, in the order of their numbers.
 pub fn initial_values(alloc: Global, cowns: &[Cown]) -> Result<Vec<i64>, AllocError>
     requires { cown_count cowns.now ≤ MOST_COWNS }
     ensures { IfOk result (λ v. v.items ≡ initial cowns.now) }
@@ -23,7 +23,7 @@ pub fn initial_values(alloc: Global, cowns: &[Cown]) -> Result<Vec<i64>, AllocEr
     Ok(values)
 }
 
-/// The cowns of a behaviour with their current values.
+/// Returns the cowns of a behaviour with their current values.
 pub fn inputs_of(cowns: &[CownNo], values: &[i64]) -> Inputs
     requires few { length cowns.now ≤ MOST_HELD }
     requires below { AllBelow (length values.now) cowns.now }

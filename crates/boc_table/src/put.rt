@@ -7,7 +7,7 @@ ghost use Rattle.boc_table.specs.Storage.{AreStored, lines_of, stored_widths, te
 use crate::side::Side;
 use std::alloc::{AllocError, Global};
 
-/// How wide each of so many columns is, of so many lines with texts of these lengths.
+/// Returns how wide each of the given number of columns is, of the given number of lines with texts of these lengths.
 pub(crate) fn widths_of(
     alloc: Global,
     columns: usize,
@@ -38,7 +38,7 @@ fn widen(widths: &mut [usize], lens: &[usize])
     }
 }
 
-/// Puts lines behind a text. Their texts have these lengths, and stand in `bytes` one after the other.
+/// Appends lines to a text. Their texts have these lengths, and are in `bytes` one after the other.
 pub(crate) fn put_lines(
     text: &mut Vec<u8>,
     sides: &[Side],
@@ -62,7 +62,7 @@ pub(crate) fn put_lines(
     Ok(())
 }
 
-// Puts a line behind a text. Its texts have these lengths, and stand at the front of `bytes`, of which it gives what is behind them.
+// Appends a line to a text. Its texts have these lengths, and are at the front of `bytes`, of which it gives what is after them.
 fn put_line<'a>(
     text: &mut Vec<u8>,
     sides: &[Side],
@@ -89,7 +89,7 @@ fn put_line<'a>(
     Ok(bytes)
 }
 
-// Puts a text in its column behind a text.
+// Appends a text in its column to a text.
 fn put_padded(text: &mut Vec<u8>, side: Side, width: usize, cell: &[u8]) -> Result<(), AllocError>
     ensures { OnOk result (text.new.items ≡ text.old.items ++ padded side width cell.now) }
 {

@@ -34,7 +34,7 @@ impl Model for Table {
 }
 
 impl Table {
-    /// No lines yet, of columns on these sides. It takes no memory.
+    /// Makes a table of no lines yet, of columns on these sides. It takes no memory.
     pub fn new(alloc: Global, sides: &'static [Side]) -> Table
         ensures sides { result.sides ≡ sides.now }
         ensures lines { result.lines ≡ [] }
@@ -47,7 +47,7 @@ impl Table {
         }
     }
 
-    /// One more line, a text for each column. `AllocError` says that memory was refused. The table is then as before.
+    /// Appends one more line, a text for each column. `AllocError` says that memory was refused. The table is then as before.
     pub fn put_line(&mut self, cells: &[&[u8]]) -> Result<(), AllocError>
         requires { length cells.now ≡ length self.old.sides }
         ensures ok { OnOk result (self.new ≡ record self.old { lines = self.old.lines ++ (map (λ c. c.now) cells.now) ∷ [] }) }
@@ -60,7 +60,7 @@ impl Table {
     }
 }
 
-// Puts texts behind those that are stored, and their lengths. After a refusal of memory all is as before.
+// Puts texts after those that are stored, and their lengths. After a refusal of memory all is as before.
 fn put_cells(lens: &mut Vec<usize>, bytes: &mut Vec<u8>, cells: &[&[u8]]) -> Result<(), AllocError>
     ensures lens { OnOk result (lens.new.items ≡ lens.old.items ++ map (λ c. length c.now) cells.now) }
     ensures bytes { OnOk result (bytes.new.items ≡ bytes.old.items ++ flat_map (λ c. c.now) cells.now) }
@@ -77,7 +77,7 @@ fn put_cells(lens: &mut Vec<usize>, bytes: &mut Vec<u8>, cells: &[&[u8]]) -> Res
     put
 }
 
-// The same, where some of the texts stay behind after a refusal of memory.
+// The same, where some of the texts stay after after a refusal of memory.
 fn push_cells(lens: &mut Vec<usize>, bytes: &mut Vec<u8>, cells: &[&[u8]]) -> Result<(), AllocError>
     ensures lens { OnOk result (lens.new.items ≡ lens.old.items ++ map (λ c. length c.now) cells.now) }
     ensures bytes { OnOk result (bytes.new.items ≡ bytes.old.items ++ flat_map (λ c. c.now) cells.now) }
@@ -91,7 +91,7 @@ fn push_cells(lens: &mut Vec<usize>, bytes: &mut Vec<u8>, cells: &[&[u8]]) -> Re
     Ok(())
 }
 
-/// Puts a table behind a text. `AllocError` says that memory was refused.
+/// Appends a table to a text. `AllocError` says that memory was refused.
 pub fn put_table(text: &mut Vec<u8>, table: &Table) -> Result<(), AllocError>
     ensures { OnOk result (text.new.items ≡ text.old.items ++ table_text table.now.sides table.now.lines) }
 {

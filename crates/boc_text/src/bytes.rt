@@ -7,7 +7,7 @@ ghost use Rattle.boc_text.specs.Streams.{CountsFailure, WritesSome};
 
 use crate::stream::{Failed, Sink, Source};
 
-/// Bytes in memory: reads take them from the front on, and writes put more behind them.
+/// Bytes in memory: reads take them from the front on, and writes put more after them.
 #[derive(Drop, Debug)]
 pub struct Bytes {
     pub bytes: Vec<u8>,
@@ -17,7 +17,7 @@ pub struct Bytes {
 }
 
 impl Bytes {
-    /// These bytes, none of which is taken yet.
+    /// Makes a source of these bytes, none of which is taken yet.
     pub fn new(bytes: Vec<u8>) -> Bytes
         ensures bytes { result.bytes ≡ bytes }
         ensures taken { result.taken ≡ 0 }
@@ -36,7 +36,7 @@ impl Source for Bytes {
 
     ghost failures = { λ b. b.failures };
 
-    /// Takes as many bytes as are left and as the buffer has room for. It never fails.
+    /// Takes as many bytes as are left and as the buffer has space for. It never fails.
     fn read(&mut self, buffer: &mut [u8]) -> Result<usize, Failed>
         ensures bound { ReadsAtMost result buffer.new }
         ensures bytes { ReadConsumes (Some (drop self.old.taken self.old.bytes.items)) (Some (drop self.new.taken self.new.bytes.items)) result buffer.new }
@@ -58,8 +58,8 @@ impl Sink for Bytes {
 
     ghost failures = { λ b. b.failures };
 
-    /// Puts all of the bytes behind those that are there. It fails only where more memory is asked for, and
-    /// refused: where the bytes fit in the room that the vector has, it never fails.
+    /// Puts all of the bytes after those that are there. It fails only where more memory is requested, and
+    /// refused: where the bytes fit in the buffer that the vector has, it never fails.
     fn write(&mut self, bytes: &[u8]) -> Result<usize, Failed>
         requires { self.old.failures < u64.MAX }
         ensures bytes { WritesSome (Some self.old.bytes.items) (Some self.new.bytes.items) result bytes.now }

@@ -7,7 +7,7 @@ use std::io::{Read, Write};
 
 /// A reader or a writer, with a count of its failures.
 ///
-/// The library's contracts tell what a call did to the bytes, where those are known, and not whether it was to
+/// The library's contracts say what a call did to the bytes, where those are known, and not whether it was to
 /// fail. So contracts tie the count to the answers of this type, and these to the bytes that moved. That a call which
 /// moves no bytes, or bytes that no contract knows, answers as the reader's or the writer's own did is shown by tests
 /// alone, in both directions.
@@ -18,7 +18,7 @@ pub struct Counted<T> {
 }
 
 impl<T> Counted<T> {
-    /// A reader or a writer that has not failed yet.
+    /// Returns a reader or a writer that has not failed yet.
     pub fn new(inner: T) -> Counted<T>
         ensures inner { result.inner ≡ inner }
         ensures failures { result.failures ≡ 0 }

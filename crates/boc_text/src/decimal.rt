@@ -11,7 +11,7 @@ use std::alloc::AllocError;
 /// The most digits of a number of 64 bits.
 pub const MOST_DIGITS: usize = 20;
 
-/// Puts a number behind the text. After a refusal of memory the text is as before.
+/// Puts a number after the text. After a refusal of memory the text is as before.
 pub fn put_number(text: &mut Vec<u8>, number: u64) -> Result<(), AllocError>
     ensures ok { OnOk result (text.new.items ≡ text.old.items ++ decimal number) }
     ensures err { OnErr result (text.new.items ≡ text.old.items) }
@@ -19,7 +19,7 @@ pub fn put_number(text: &mut Vec<u8>, number: u64) -> Result<(), AllocError>
     text.extend_from_slice(Buffer::new().format(number).as_bytes())
 }
 
-/// Puts a number behind the text, with a minus in front of a negative one. After a refusal of memory
+/// Puts a number after the text, with a minus before a negative one. After a refusal of memory
 /// the text is as before.
 pub fn put_signed(text: &mut Vec<u8>, value: i64) -> Result<(), AllocError>
     ensures ok { OnOk result (text.new.items ≡ text.old.items ++ signed_decimal value) }
@@ -28,7 +28,7 @@ pub fn put_signed(text: &mut Vec<u8>, value: i64) -> Result<(), AllocError>
     text.extend_from_slice(Buffer::new().format(value).as_bytes())
 }
 
-/// Writes a number in front of what a line has from a place on, with a byte between them, and says where it begins.
+/// Writes a number before what a line has from a place on, with a byte between them, and says where it begins.
 pub fn write_before(line: &mut [u8], place: usize, number: u64, between: u8) -> usize
     requires room { MOST_DIGITS < place }
     requires within { place ≤ length line.old }
@@ -41,7 +41,7 @@ pub fn write_before(line: &mut [u8], place: usize, number: u64, between: u8) -> 
     write_digits(number, line, end)
 }
 
-// The number that digits are worth.
+// Returns the number that digits are worth.
 fn value_of(digits: &[u8]) -> Option<u32>
     ensures { MatchOption result ((n : ℕ) → n < 2 ^ 32 → digits.now ≡ decimal n → ⊥)
         (λ n. (n < 2 ^ 32) × AllDigits 10 digits.now × (digits_value 10 digits.now ≡ n)) }
@@ -58,7 +58,7 @@ fn value_of(digits: &[u8]) -> Option<u32>
     Some(number)
 }
 
-/// The number that a decimal text is: `0`, or digits of which the first is no `0`, and at most
+/// Returns the number that a decimal text is: `0`, or digits of which the first is no `0`, and at most
 /// 4,294,967,295. No other text is a number.
 pub fn read_number(bytes: &[u8]) -> Option<u32>
     ensures { MatchOption result ((n : ℕ) → n < 2 ^ 32 → bytes.now ≡ decimal n → ⊥) (λ n. bytes.now ≡ decimal n) }

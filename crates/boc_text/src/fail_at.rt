@@ -35,7 +35,7 @@ impl<T> FailAt<T> {
         }
     }
 
-    // Counts a call, and tells that it is the one that fails.
+    // Counts a call, and says that it is the one that fails.
     fn fails_now(&mut self) -> bool
         ensures fails { IsTrue result ↔ (self.old.calls_left ≡ 1) }
         ensures calls { self.new.calls_left ≡ self.old.calls_left - 1 }

@@ -1,7 +1,7 @@
 //! Numbers as text, lines, and input and output whose failures are counted.
 //!
-//! A `Source` gives bytes and a `Sink` takes them. Their contracts know the bytes, where the type tells
-//! them, and how many calls have failed. `Counted` makes them of the library's readers and writers,
+//! A `Source` gives bytes and a `Sink` takes them. Their contracts know the bytes, where the type says them,
+//! and how many calls have failed. `Counted` makes them of the library's readers and writers,
 //! `Bytes` of memory, and `FailAt` fails once, for tests. `Outgoing` is a text that goes out in parts while it is formed.
 #![tactic(auto)]
 

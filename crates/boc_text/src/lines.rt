@@ -24,7 +24,7 @@ pub enum Next {
     Line(ArrayVec<u8, MOST_LINE>),
     /// No more bytes come.
     End,
-    /// The bytes end within a line: some stand behind the last line feed.
+    /// The bytes end within a line: some come after the last line feed.
     Cut,
     /// More than 80 bytes come before the next line feed.
     TooLong,
@@ -39,7 +39,7 @@ pub enum Found {
     Line,
     /// No more bytes come.
     End,
-    /// The bytes end within a line: some stand behind the last line feed.
+    /// The bytes end within a line: some come after the last line feed.
     Cut,
     /// More than 80 bytes come before the next line feed.
     TooLong,
@@ -47,9 +47,9 @@ pub enum Found {
     Device,
 }
 
-/// What stands at the front of bytes.
+/// What is at the front of bytes.
 enum Front {
-    /// A line of so many bytes, and its line feed.
+    /// A line of the given number of bytes, and its line feed.
     Line(usize),
     /// A line that may go on.
     Open,
@@ -83,8 +83,8 @@ fn move_to_front(buffer: &mut [u8], start: usize, end: usize)
 
 /// The lines of a source. Bytes are taken in ahead, and no memory is allocated.
 ///
-/// The source is handed in at each call, and is to be the same at all of them. Contracts see the line that
-/// was found last, the bytes that are taken in and not given yet, and whether the lines are over.
+/// The source is passed at each call, and must be the same at all of them. Contracts see the line that
+/// was found last, the bytes that are taken in and not given yet, and whether the lines have ended.
 #[derive(Drop)]
 pub struct Lines {
     buffer: [u8; CAPACITY],
@@ -110,7 +110,7 @@ impl Model for Lines {
 }
 
 impl Lines {
-    /// The lines of a source of which nothing is taken in yet.
+    /// Returns the lines of a source of which nothing is taken in yet.
     pub fn new() -> Lines
         ensures line { result.line ≡ [] }
         ensures buffered { result.buffered ≡ [] }
@@ -126,7 +126,7 @@ impl Lines {
         }
     }
 
-    /// The bytes that are taken in and not given yet.
+    /// Returns the bytes that are taken in and not given yet.
     pub fn buffered(&self) -> &[u8]
         ensures bytes { result.now ≡ self.now.buffered }
         ensures few { length result.now ≤ CAPACITY }
@@ -134,7 +134,7 @@ impl Lines {
         &self.buffer[self.start..self.end]
     }
 
-    /// Goes past the line of so many bytes and its line feed, which stand at the front of those taken in. `line` then gives
+    /// Goes past the line of the given number of bytes and its line feed, which are at the front of those taken in. `line` then gives
     /// it.
     pub fn take_line(&mut self, len: usize)
         requires open { self.old.is_over ≡ false }
@@ -220,15 +220,15 @@ impl Lines {
         found
     }
 
-    /// The line that was found last, without its line feed; empty where none was found yet, and where the lines
-    /// are over.
+    /// Returns the line that was found last, without its line feed; empty where none was found yet, and where the lines
+    /// have ended.
     pub fn line(&self) -> &[u8]
         ensures { result.now ≡ self.now.line }
     {
         &self.buffer[self.line..self.line_end]
     }
 
-    /// The next line, without its line feed. Each answer but a line ends the lines: from then on the
+    /// Returns the next line, without its line feed. Each answer but a line ends the lines: from then on the
     /// answer is `End`, and nothing is read.
     pub fn next_line<S: Source>(&mut self, source: &mut S) -> Next
         requires { S.failures source.old < u64.MAX }

@@ -12,7 +12,7 @@ use std::alloc::{AllocError, Global};
 /// How many bytes are held back at most before they go out.
 pub const ROOM: usize = 64 * 1024;
 
-/// The end of a text that goes out while it is formed. What went out takes no room any more.
+/// The end of a text that goes out while it is formed. What went out takes no space any more.
 #[derive(Drop)]
 pub struct Outgoing {
     // What hasn't gone out yet.
@@ -25,7 +25,7 @@ pub struct Outgoing {
 impl Outgoing {
     ghost use Rattle.boc_text.specs.Outgoing.{IsOut, IsUnused, size};
 
-    /// No text yet. `AllocError` says that memory was refused. No more is asked for later.
+    /// Makes an outgoing text that is empty yet. `AllocError` says that memory was refused. No more is requested later.
     pub fn new(alloc: Global) -> Result<Outgoing, AllocError>
         ensures unused { IfOk result IsUnused }
         ensures size { IfOk result (λ o. size o ≡ 0) }
@@ -36,7 +36,7 @@ impl Outgoing {
         })
     }
 
-    /// Puts bytes behind the text. Where there is no room for them, what hasn't gone out yet goes out first. Where the sink
+    /// Puts bytes after the text. Where there is no space for them, what hasn't gone out yet goes out first. Where the sink
     /// fails, the bytes are not put, and the text stays as it was, with all that it held back.
     pub fn put<W: Sink>(&mut self, bytes: &[u8], sink: &mut W) -> Result<(), Stopped>
         requires few { length bytes.now ≤ ROOM }

@@ -11,7 +11,7 @@ pub struct Failed;
 
 /// Bytes that come in.
 ///
-/// Contracts know the bytes that are still to come, where the type tells them, and how many calls
+/// Contracts know the bytes that are still to come, where the type says them, and how many calls
 /// have failed so far.
 pub trait Source {
     ghost remaining: { Self → Option (List ℕ) };
@@ -19,7 +19,7 @@ pub trait Source {
     ghost failures: { Self → ℕ };
 
     /// Takes the next bytes into the front of the buffer, and says how many. None, where the buffer
-    /// has room, means that no more bytes come.
+    /// has space, means that no more bytes come.
     fn read(&mut self, buffer: &mut [u8]) -> Result<usize, Failed>
         requires { failures self.old < u64.MAX }
         ensures bound { ReadsAtMost result buffer.new }
@@ -29,7 +29,7 @@ pub trait Source {
 
 /// Bytes that go out.
 ///
-/// Contracts know the bytes that went out, where the type tells them, and how many calls have failed
+/// Contracts know the bytes that went out, where the type says them, and how many calls have failed
 /// so far.
 pub trait Sink {
     ghost written: { Self → Option (List ℕ) };

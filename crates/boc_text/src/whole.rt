@@ -39,7 +39,7 @@ pub struct Stopped {
 /// How many bytes are asked for at once.
 const CHUNK: usize = 4096;
 
-/// At most `limit` bytes of a source, in the order in which they come. What it has beyond them stays
+/// Returns at most `limit` bytes of a source, in the order in which they come. What it has beyond them stays
 /// unread. Fewer come only where the source has no more.
 pub fn read_all<S: Source>(
     alloc: Global,

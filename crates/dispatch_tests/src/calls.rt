@@ -26,13 +26,13 @@ const AT_FIRST_WISH: &[u8] = b"+ 0 0 0\n> 0\n+ 1 0 2 0\n6 10 0";
 const AT_END: &[u8] =
     b"+ 0 0 0\n> 0\n+ 1 0 2 0\n+ 2 0 3 0 1\n+ 3 0 4 1\n< 0 4 0\n> 1\n< 1 2 0 0\n> 2\n< 2 3 0 0 1\n> 3\n< 3 2 0 1\n30 12 4";
 
-// The program that a text spells.
+// Returns the program that a text spells.
 pub(crate) fn program(rt: &impl Abort, alloc: Global, text: &[u8]) -> Program {
     let program = read_program(alloc, text).ok();
     program.expect(rt, "a program")
 }
 
-// The program's body of this kind.
+// Returns the program's body of this kind.
 pub(crate) fn body<'a>(
     rt: &impl Abort,
     compiled: &'a CompiledProgram<'a>,
@@ -42,7 +42,7 @@ pub(crate) fn body<'a>(
     compiled.body(kind)
 }
 
-// A body at its start, on as many arguments and inputs as it takes.
+// Returns a body at its start, on as many arguments and inputs as it takes.
 pub(crate) fn frame<'a>(
     rt: &impl Abort,
     alloc: Global,
@@ -57,13 +57,13 @@ pub(crate) fn frame<'a>(
     Frame::new(alloc, body, args, inputs).expect(rt, "memory")
 }
 
-// The frame of a behaviour that was started.
+// Returns the frame of a behaviour that was started.
 fn frame_of<'a>(rt: &impl Abort, alloc: Global, job: &Job<'a>) -> Frame<'a> {
     let body = job.body.duplicate();
     frame(rt, alloc, body, job.args.as_slice(), job.inputs.as_slice())
 }
 
-// What can be seen of a dispatcher: the lines of its log, its steps, and the values of its cowns.
+// Returns what can be seen of a dispatcher: the lines of its log, its steps, and the values of its cowns.
 fn shown(rt: &impl Abort, alloc: Global, core: &Dispatcher<'_>) -> Vec<u8> {
     let mut text = Vec::new(alloc);
     put_events(&mut text, &core.log()).expect(rt, "memory");
@@ -80,7 +80,7 @@ fn shows(rt: &impl Abort, alloc: Global, core: &Dispatcher<'_>, wanted: &[u8]) {
     assert!(rt; shown(rt, alloc, core).as_slice() == wanted);
 }
 
-// The behaviour that is started next.
+// Returns the behaviour that is started next.
 fn started<'a>(rt: &impl Abort, core: &mut Dispatcher<'a>) -> Job<'a> {
     match core.start() {
         Started::Job(job) => job,
@@ -164,7 +164,7 @@ fn transfer_by_one_worker(rt: HostRuntime) {
     ends_as_transfer(&rt, rt.alloc(), &compiled);
 }
 
-// A dispatcher that has handed main out, and main.
+// Returns a dispatcher that has handed main out, and main.
 fn with_main<'a>(
     rt: &impl Abort,
     alloc: Global,
@@ -175,7 +175,7 @@ fn with_main<'a>(
     (core, main)
 }
 
-// What a body gave that has ended, of whose wishes none is spawned.
+// Returns what a body gave that has ended, of whose wishes none is spawned.
 fn outcome<'a>(rt: &impl Abort, mut frame: Frame<'a>) -> Outcome<'a> {
     for _ in 0..100 {
         if !frame.go_on() {
@@ -229,7 +229,7 @@ fn outcomes_of_strangers_end_nothing(rt: HostRuntime) {
     }
 }
 
-// The frame of main after this many wishes.
+// Returns the frame of main after this many wishes.
 fn frame_after<'a>(rt: &impl Abort, alloc: Global, main: &Job<'a>, wishes: u32) -> Frame<'a> {
     let mut frame = frame_of(rt, alloc, main);
     for _ in 0..wishes {

@@ -29,7 +29,7 @@ const LONG_COUNTDOWN: &[u8] = b"cown a = 0;
 def down(n; x) { x = x + n; if n > 0 { when down(n - 1; x); } }
 main { when down(2000; a); }";
 
-// A drive with this many workers in which each choice has its turn.
+// Returns a drive with this many workers in which each choice has its turn.
 fn driven<'a>(
     rt: &impl Abort,
     alloc: Global,

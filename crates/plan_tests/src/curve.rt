@@ -1,9 +1,9 @@
-//! A curve of worked rows, and what is told while many rows are swept. Other plans are in `tests/suite` and in the tables that `tables` works through.
+//! A curve of worked rows, and what is reported while many rows are swept. Other plans are in `tests/suite` and in the tables that `tables` works through.
 
 use crate::worked_rows::{row, rows_of, transfer};
 use boc_greedy::{CurvePoint, curve};
 use boc_plans::sharing::Sharing;
-use boc_plans::workers::Workers;
+use boc_program::count::Workers;
 use boc_runs::rows::Row;
 use boc_whatif::{Progress, WhatIf};
 use std::alloc::{AllocError, Global};
@@ -37,7 +37,7 @@ fn transfer_by_more_workers(rt: HostRuntime) {
     assert_eq!(rt; points.as_slice(), wanted.as_slice());
 }
 
-/// Keeps what it was told last, and how often it was told anything.
+/// Keeps the last report, and counts the reports.
 #[derive(Drop)]
 struct Told {
     rows: usize,
@@ -53,7 +53,7 @@ impl Progress for Told {
     }
 }
 
-// Main, and so many rows that it spawns, a tick after each other. Each takes three ticks.
+// Main, and this many rows that it spawns, a tick after each other. Each takes three ticks.
 fn many_rows(alloc: Global, count: u32) -> Result<Vec<Row>, AllocError> {
     let mut list = Vec::new(alloc);
     list.push(row(0, 0, &[], 1_000))?;
@@ -63,7 +63,7 @@ fn many_rows(alloc: Global, count: u32) -> Result<Vec<Row>, AllocError> {
     Ok(list)
 }
 
-// The ends of the greedy plans for 64 workers with one row after another at its least ticks.
+// Returns the ends of the greedy plans for 64 workers with one row after another at its least ticks.
 fn ends_of(rt: &(impl Abort + Threads + Sync), alloc: Global, told: &mut Told) -> Vec<u64> {
     let rows = rows_of(rt, many_rows(alloc, 599).expect(rt, "memory"));
     let question = WhatIf::of(alloc, rows, Sharing::Exclusive).expect(rt, "memory");

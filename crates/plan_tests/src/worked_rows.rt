@@ -14,7 +14,7 @@ fn held(numbers: &[u32]) -> HeldCowns {
     HeldCowns::try_of(&cowns).unwrap_or_else(HeldCowns::new)
 }
 
-// A row that wrote all its cowns.
+// Returns a row that wrote all its cowns.
 pub(crate) fn row(parent: u32, offset: u32, numbers: &[u32], ticks: u32) -> Row {
     Row {
         parent,
@@ -26,7 +26,7 @@ pub(crate) fn row(parent: u32, offset: u32, numbers: &[u32], ticks: u32) -> Row 
     }
 }
 
-// A row that only read its cowns.
+// Returns a row that only read its cowns.
 fn reader(parent: u32, offset: u32, numbers: &[u32], ticks: u32) -> Row {
     Row {
         written: HeldCowns::new(),

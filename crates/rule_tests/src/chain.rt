@@ -7,7 +7,7 @@ use boc_program::short::Cowns;
 use std::alloc::AllocError;
 use std::test::Fail;
 
-// The cowns of a behaviour with one cown, of number 0.
+// Returns the cowns of a behaviour with one cown, of number 0.
 fn one() -> Cowns
     ensures { result.items ≡ 0 ∷ [] }
 {
@@ -16,7 +16,7 @@ fn one() -> Cowns
     cowns
 }
 
-// Whether a slot that was given back is used again, and its one request is granted at once.
+// Returns whether a slot that was freed is used again, and its one request is granted at once.
 fn uses_again<C: Chains>(chains: &mut C) -> Result<bool, AllocError>
     requires { C.lists chains.old ≡ replicate 1 [] }
 {

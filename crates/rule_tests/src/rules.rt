@@ -25,7 +25,7 @@ fn start(row: u32) -> Event {
     Event::Start { row }
 }
 
-// An end that wrote these cowns.
+// Returns an end that wrote these cowns.
 fn end(row: u32, ticks: u32, written: &[u32]) -> Event {
     Event::End {
         row,
@@ -51,7 +51,7 @@ const TRANSFER: [(u8, (u32, u32, u32), &[u32]); 12] = [
     (b'<', (3, 2, 0), &[]),
 ];
 
-// The event of a line.
+// Returns the event of a line.
 fn event(sign: u8, (row, second, third): (u32, u32, u32), numbers: &[u32]) -> Event {
     match sign {
         b'+' => spawn(row, second, third, numbers),
@@ -60,7 +60,7 @@ fn event(sign: u8, (row, second, third): (u32, u32, u32), numbers: &[u32]) -> Ev
     }
 }
 
-// The rules of a run with two cowns and no event.
+// Returns the rules of a run with two cowns and no event.
 fn two_cowns(rt: &impl Abort, alloc: Global) -> Rules {
     Rules::new(alloc, 2).expect(rt, "memory")
 }
@@ -115,7 +115,7 @@ fn rules_put_what_is_allowed(rt: HostRuntime) {
     rules.take(start(0)).expect(&rt, "the start of main");
 }
 
-// A fault is told so, and no other way.
+// A fault is reported so, and no other way.
 fn tells(rt: &impl Abort, alloc: Global, fault: &RuleFault, text: &str) {
     let told = fault.to_string(alloc).expect(rt, "memory");
     assert_eq!(rt; told.as_str(), text);
@@ -140,7 +140,7 @@ fn faults_are_told(rt: HostRuntime) {
     tells(&rt, alloc, &RuleFault::Memory, "8 Memory");
 }
 
-// A judge of a run with one cown and no event, with room for two rows.
+// Returns a judge of a run with one cown and no event, with space for two rows.
 fn with_two_rooms(rt: &impl Abort, alloc: Global) -> Judge {
     let mut judge = Judge::new(alloc, 1).expect(rt, "memory");
     judge.make_room().expect(rt, "memory");
@@ -148,7 +148,7 @@ fn with_two_rooms(rt: &impl Abort, alloc: Global) -> Judge {
     judge
 }
 
-// A judge of a run with one cown, of which main runs, with room for a child.
+// Returns a judge of a run with one cown, of which main runs, with space for a child.
 fn with_main(rt: &impl Abort, alloc: Global) -> Judge {
     let mut judge = with_two_rooms(rt, alloc);
     judge.take(spawn(0, 0, 0, &[])).expect(rt, "main");

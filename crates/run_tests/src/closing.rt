@@ -1,8 +1,9 @@
-//! What a run answers whose dispatcher is of another program, whose workers end before it is over, or in which a fault was noted.
+//! What a run answers whose dispatcher is of another program, whose workers end before it has ended, or in which a fault was noted.
 
 ghost use Rattle.std.specs.Prelude.{◌≡◌};
 
 use crate::workers::{NO_COWNS, TRANSFER, program};
+use boc_dispatch::Tell;
 use boc_program::program::Program;
 use boc_registers::compiled::CompiledProgram;
 use boc_workers::{OpenGate, RunAnswer, RunFault, Shared};
@@ -10,7 +11,7 @@ use std::alloc::Global;
 use std::marker::Brand;
 use std::sync::ledger::{Blank, Ledger};
 
-// What a run of a dispatcher's program answers to another program, where its one worker ends at once and a fault was noted, if any.
+// Returns what a run of a dispatcher's program answers to another program, where its one worker ends at once and a fault was noted, if any.
 fn closed<L: Ledger + Send + Sync>(
     alloc: Global,
     blank: Blank,
@@ -29,7 +30,7 @@ fn closed<L: Ledger + Send + Sync>(
     let Ok(compiled) = CompiledProgram::new(alloc, own) else {
         return Err(RunFault::Memory);
     };
-    let Ok(mut shared) = Shared::<L, OpenGate>::new(alloc, &compiled, book) else {
+    let Ok(mut shared) = Shared::<L, OpenGate>::new(alloc, &compiled, book, Tell::Nothing) else {
         return Err(RunFault::Memory);
     };
     if noted {
@@ -38,7 +39,7 @@ fn closed<L: Ledger + Send + Sync>(
     shared.close(asked, Ok((made, rest)))
 }
 
-// The fault of a run that is closed so.
+// Returns the fault of a run that is closed so.
 fn fault_of(alloc: Global, own: &Program, asked: &Program, noted: bool) -> Option<RunFault> {
     closed::<Brand>(alloc, Blank::new(1), own, asked, noted).err()
 }

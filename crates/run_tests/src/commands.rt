@@ -57,7 +57,7 @@ fn done<R: Abort + Threads + Wait + Sync, G: Gate>(
     )
 }
 
-// What a command answers to a program, with this gate.
+// Returns what a command answers to a program, with this gate.
 fn answer_of<R: Abort + Threads + Wait + Sync, G: Gate>(
     rt: &R,
     alloc: Global,
@@ -78,7 +78,7 @@ fn answer_of<R: Abort + Threads + Wait + Sync, G: Gate>(
     }
 }
 
-// The commands that run a program, on this many threads.
+// Returns the commands that run a program, on this many threads.
 fn by_threads(rt: &impl Abort, count: u32) -> [Command; 2] {
     let runners = Runners::new(count).expect(rt, "1 to 16 threads");
     [

@@ -1,4 +1,4 @@
-//! The gates that the tests of runs hand in.
+//! The gates that the tests of runs pass.
 
 use boc_dispatch::Step;
 use boc_workers::{Gate, Go};
@@ -31,7 +31,7 @@ impl Gate for StopsAtSwap {
 #[derive(Drop)]
 pub(crate) struct StopsAtSecondBody<'r, R> {
     rt: &'r R,
-    // How many have come to a body.
+    // How many have reached a body.
     bodies: Mutex<u64>,
 }
 
@@ -69,7 +69,7 @@ impl<'r, R: Wait> Counting<'r, R> {
         Counting { rt, steps }
     }
 
-    /// After how many steps each worker asked.
+    /// Returns after how many steps each worker asked.
     pub(crate) fn counts(&self) -> [u64; 16] {
         *self.steps.lock(self.rt)
     }
@@ -119,7 +119,7 @@ impl<'r, R: Wait> Meeting<'r, R> {
         Meeting { rt, place, seen }
     }
 
-    /// Whether both have come.
+    /// Returns whether both have come.
     pub(crate) fn both_came(&self) -> bool {
         let seen = *self.seen.lock(self.rt);
         seen.first && seen.second

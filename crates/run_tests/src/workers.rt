@@ -1,6 +1,7 @@
 //! Whole runs with one worker or several: the steps that they make, and when the lock is free.
 
 use crate::gates::{Counting, Meeting, Overtaking, Place};
+use boc_dispatch::Tell;
 use boc_program::program::Program;
 use boc_reader::read_program;
 use boc_workers::{RunAnswer, run};
@@ -40,13 +41,13 @@ def left(; g) { when one(; a, b); }
 def right(; g) { when two(; g); }
 main { when left(; p); when right(; q); }";
 
-// The program that a text spells.
+// Returns the program that a text spells.
 pub(crate) fn program(rt: &impl Abort, alloc: Global, text: &str) -> Program {
     let program = read_program(alloc, text.as_bytes()).ok();
     program.expect(rt, "a program")
 }
 
-// How many steps all workers made.
+// Returns how many steps all workers made.
 fn all_made(answer: &RunAnswer) -> u64 {
     let mut all = 0u64;
     for made in &answer.made {
@@ -65,8 +66,10 @@ fn asks_after_steps<R: Abort + Threads + Wait + Sync>(
 ) {
     assert!(rt; (1..=16).contains(&workers));
     let gate = Counting::new(rt);
-    let answer = run(rt, alloc, program, workers, &gate).expect(rt, "a run");
+    let answer = run(rt, alloc, program, workers, Tell::All, &gate).expect(rt, "a run");
     assert_eq!(rt; (answer.record.events().len(), all_made(&answer)), counts);
+    // Each row says what it is.
+    assert_eq!(rt; answer.told.len(), answer.record.rows().as_slice().len());
     let all = gate.counts();
     let (asked, others) = all.split_at(workers as usize);
     assert_eq!(rt; answer.made.as_slice(), asked);
@@ -91,7 +94,7 @@ fn each_worker_is_told_to_the_gate(rt: HostRuntime) {
 fn lock_is_free_after_a_swap(rt: HostRuntime) {
     let program = program(&rt, rt.alloc(), TWO_ORDERS);
     let gate = Meeting::new(&rt, Place::AfterSwap);
-    let answer = run(&rt, rt.alloc(), &program, 2, &gate).expect(&rt, "a run");
+    let answer = run(&rt, rt.alloc(), &program, 2, Tell::All, &gate).expect(&rt, "a run");
     assert!(rt; gate.both_came());
     assert_eq!(rt;
         (answer.record.rows().as_slice().len(), all_made(&answer)),
@@ -103,7 +106,7 @@ fn lock_is_free_after_a_swap(rt: HostRuntime) {
 fn one_enqueue_overtakes_another(rt: HostRuntime) {
     let program = program(&rt, rt.alloc(), APART);
     let gate = Overtaking::new(&rt);
-    let answer = run(&rt, rt.alloc(), &program, 2, &gate).expect(&rt, "a run");
+    let answer = run(&rt, rt.alloc(), &program, 2, Tell::All, &gate).expect(&rt, "a run");
     let rows = answer.record.rows().as_slice();
     assert!(rt; rows.iter().map(|row| row.parent).eq([0, 0, 0, 2, 1]));
 }

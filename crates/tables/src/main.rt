@@ -1,16 +1,16 @@
-//! Tells for each text of a table on standard input what becomes of it.
+//! Reports for each text of a table on standard input what becomes of it.
 //!
-//! A text of the table stands behind a line with its kind, a space and its length in bytes, and before a line feed. A
+//! A text of the table comes after a line with its kind, a space and its length in bytes, and before a line feed. A
 //! `program` is read, and a `record` is read and written again. Of the record of a `report` the report is written, with
 //! the greedy plan for P workers, 1 to 64, where the kind is `report P`; of that of an `edit ROW TICKS` the report after
-//! that edit, or why it is refused; and of that of a `sweep` the sweep. With `shared ` in front of it, plans see what was
+//! that edit, or why it is refused; and of that of a `sweep` the sweep. With `shared ` before it, plans see what was
 //! only read as shared. The first line of a `drive WORKERS` is a list of
-//! choices of so many workers, a letter for each, `a` for worker 0, and the rest is the program that they drive: where the
-//! run stands then is written as its log, its steps, and the values of its cowns. Of a `quiet WORKERS`, which is made so too,
+//! choices of the given number of workers, a letter for each, `a` for worker 0, and the rest is the program that they drive: where the
+//! run is then is written as its log, its steps, and the values of its cowns. Of a `quiet WORKERS`, which is made so too,
 //! it is written who can step then, and the steps and values of the run once it went on until it is quiet. Each drive is
 //! made over linked chains and over plain ones, and what the plain ones give is written too, should it be something else.
-//! A `follow LENGTH` is a program of so many bytes and a record behind it: it is written whether the record is that of a run of the program, with
-//! the values in which that ends, or the line of the record that strays from the program first, and how.
+//! A `follow LENGTH` is a program of the given number of bytes and a record after it: it is written whether the record is that of a run of the program, with
+//! the values in which that ends, or the line of the record that diverges from the program first, and how.
 #![tactic(auto)]
 
 ghost use Rattle.std.specs.Prelude.{◌<◌, ◌≤◌, length, IfOk, IfSome};
@@ -24,7 +24,7 @@ use boc_follow::follow_record;
 use boc_greedy::{Greedy, greedy};
 use boc_order::profile;
 use boc_plans::sharing::Sharing;
-use boc_plans::workers::Workers;
+use boc_program::count::Workers;
 use boc_program::program::Program;
 use boc_progress::Silent;
 use boc_reader::read_program;
@@ -64,7 +64,7 @@ const WORDS: &[(&str, Word)] = &[
     ("follow", Word::Follow),
 ];
 
-/// What a text of the table is meant to be, how plans share reads, and the numbers behind the word, or 0 where there is none.
+/// What a text of the table is meant to be, how plans share reads, and the numbers after the word, or 0 where there is none.
 #[derive(Clone, Copy)]
 struct Kind {
     word: Word,
@@ -73,7 +73,7 @@ struct Kind {
     second: u32,
 }
 
-// What a name stands for.
+// Returns what a name stands for.
 fn word_of(name: &str) -> Option<Word> {
     for (spelling, word) in WORDS {
         if *spelling == name {
@@ -83,7 +83,7 @@ fn word_of(name: &str) -> Option<Word> {
     None
 }
 
-// The first of some words, and the words behind it.
+// Returns the first of some words, and the words after it.
 fn first_word(words: &str) -> (&str, &str) {
     match words.split_once(' ') {
         Some(parts) => parts,
@@ -91,7 +91,7 @@ fn first_word(words: &str) -> (&str, &str) {
     }
 }
 
-// The number that a word is, or 0 where there is no word.
+// Returns the number that a word is, or 0 where there is no word.
 fn number(word: &str) -> Option<u32> {
     if word.is_empty() {
         return Some(0);
@@ -99,7 +99,7 @@ fn number(word: &str) -> Option<u32> {
     word.parse().ok()
 }
 
-// The kind that some words name.
+// Returns the kind that some words name.
 fn kind_of(words: &str) -> Option<Kind> {
     let (words, sharing) = match words.strip_prefix("shared ") {
         Some(words) => (words, Sharing::SharedReads),
@@ -115,7 +115,7 @@ fn kind_of(words: &str) -> Option<Kind> {
     })
 }
 
-// The first line of some bytes, and what stands behind it.
+// Returns the first line of some bytes, and what comes after it.
 fn first_line(bytes: &[u8]) -> Option<(&[u8], &[u8])>
     ensures { IfSome result (λ parts. length parts.1.now < length bytes.now) }
 {
@@ -124,7 +124,7 @@ fn first_line(bytes: &[u8]) -> Option<(&[u8], &[u8])>
     Some((line, &behind[1..]))
 }
 
-// The first text of a table with its kind, and what stands behind it.
+// Returns the first text of a table with its kind, and what comes after it.
 fn first_text(table: &[u8]) -> Option<(Kind, &[u8], &[u8])>
     ensures { IfSome result (λ parts. length parts.2.now < length table.now) }
 {
@@ -147,13 +147,13 @@ fn tell_program(rt: HostRuntime, text: &[u8]) -> io::Result<()> {
     }
 }
 
-// The record of a text.
+// Returns the record of a text.
 fn record_of(rt: HostRuntime, text: &[u8]) -> io::Result<Result<Record, RecordFault>> {
     let mut source = Bytes::new(Vec::from_slice(rt.alloc(), text)?);
     Ok(read_record(rt.alloc(), &mut source))
 }
 
-// The text of a record, as it is written.
+// Returns the text of a record, as it is written.
 fn text_of(rt: HostRuntime, record: &Record) -> Result<Vec<u8>, WriteFault> {
     let mut sink = Bytes::new(Vec::new(rt.alloc()));
     write_record(rt.alloc(), record, &mut sink)?;
@@ -173,7 +173,7 @@ fn tell_record(rt: HostRuntime, text: &[u8]) -> io::Result<()> {
     }
 }
 
-// Writes the line on a record of so many rows that is written again as this.
+// Writes the line on a record of the given number of rows that is written again as this.
 fn tell_written(rt: HostRuntime, text: &[u8], written: &[u8], rows: usize) -> io::Result<()> {
     let version = if written == text {
         ""
@@ -185,7 +185,7 @@ fn tell_written(rt: HostRuntime, text: &[u8], written: &[u8], rows: usize) -> io
     println!(rt; "ok {rows}{version}")
 }
 
-// Whether a record's text is written again as it is.
+// Returns whether a record's text is written again as it is.
 fn is_written_again(rt: HostRuntime, text: &[u8]) -> io::Result<bool> {
     match record_of(rt, text)? {
         Ok(record) => Ok(text_of(rt, &record).is_ok_and(|written| written.as_slice() == text)),
@@ -193,7 +193,7 @@ fn is_written_again(rt: HostRuntime, text: &[u8]) -> io::Result<bool> {
     }
 }
 
-// The greedy plan for so many workers, where a number is given.
+// Returns the greedy plan for the given number of workers, where a number is given.
 fn greedy_for(
     alloc: Global,
     rows: &Rows,
@@ -252,7 +252,7 @@ fn tell_sweep(
     rt.stdout().write_all(&lines)
 }
 
-// Writes what is asked of the plans of a record's rows, or the line on a text that is none.
+// Writes what is wanted of the plans of a record's rows, or the line on a text that is none.
 fn tell_plan(
     rt: HostRuntime,
     threads: &(impl Threads + Sync),
@@ -271,7 +271,7 @@ fn tell_plan(
     }
 }
 
-// The workers that letters name.
+// Returns the workers that letters name.
 fn choices_of(alloc: Global, letters: &[u8]) -> Result<Vec<u16>, AllocError> {
     let mut choices = Vec::with_capacity(alloc, letters.len())?;
     for letter in letters {
@@ -280,7 +280,7 @@ fn choices_of(alloc: Global, letters: &[u8]) -> Result<Vec<u16>, AllocError> {
     Ok(choices)
 }
 
-// How a run stands: its log, its steps, and the values of its cowns.
+// Returns how a run is: its log, its steps, and the values of its cowns.
 fn run_text<C: Chains + Drop>(alloc: Global, run: &Core<'_, C>) -> Result<Vec<u8>, AllocError> {
     let mut text = Vec::new(alloc);
     put_events(&mut text, &run.log())?;
@@ -288,7 +288,7 @@ fn run_text<C: Chains + Drop>(alloc: Global, run: &Core<'_, C>) -> Result<Vec<u8
     Ok(text)
 }
 
-// How a run stands without its log.
+// Returns how a run is without its log.
 fn end_text<C: Chains + Drop>(alloc: Global, run: &Core<'_, C>) -> Result<Vec<u8>, AllocError> {
     let mut text = Vec::new(alloc);
     put_end(&mut text, run)?;
@@ -323,7 +323,7 @@ fn tell_drive_fault(rt: HostRuntime, fault: DriveFault) -> io::Result<()> {
 }
 
 // Writes what became of a drive over linked chains; and also of that over plain chains, where it is another. What memory
-// was wanted for in one of both tells nothing of the other.
+// was wanted for in one of both says nothing of the other.
 fn tell_both(
     rt: HostRuntime,
     linked: Result<Vec<u8>, DriveFault>,
@@ -347,7 +347,7 @@ fn tell_one(rt: HostRuntime, told: Result<Vec<u8>, DriveFault>) -> io::Result<()
     }
 }
 
-// Writes where a program's run stands after these choices, or why there is no such run.
+// Writes where a program's run is after these choices, or why there is no such run.
 fn tell_drive(
     rt: HostRuntime,
     program: &CompiledProgram<'_>,
@@ -360,7 +360,7 @@ fn tell_drive(
     tell_both(rt, linked, plain)
 }
 
-// How a drive over plain chains stands after these choices, or once it went on from there until it is quiet.
+// Returns how a drive over plain chains is after these choices, or once it went on from there until it is quiet.
 fn plain_text(
     alloc: Global,
     program: &CompiledProgram<'_>,
@@ -394,7 +394,7 @@ fn tell_mover(
     }
 }
 
-// Writes where the run stands once it went on from these choices until it is quiet.
+// Writes where the run is once it went on from these choices until it is quiet.
 fn tell_quiet(
     rt: HostRuntime,
     program: &CompiledProgram<'_>,
@@ -409,7 +409,7 @@ fn tell_quiet(
     tell_both(rt, linked, plain)
 }
 
-// Writes what becomes of a program with the choices in front of it, as one kind of drive asks.
+// Writes what becomes of a program with the choices before it, as one kind of drive asks.
 fn tell_driven(rt: HostRuntime, text: &[u8], workers: u32, until_quiet: bool) -> io::Result<()> {
     let Some((letters, text)) = first_line(text) else {
         return rt.println("no choices");
@@ -438,7 +438,7 @@ fn tell_choices(
     }
 }
 
-// The values in which a run ends.
+// Returns the values in which a run ends.
 fn values_text(alloc: Global, values: &[i64]) -> Result<Vec<u8>, AllocError> {
     let mut text = Vec::from_slice(alloc, b"a run of it, which ends in")?;
     if values.is_empty() {
@@ -452,7 +452,7 @@ fn values_text(alloc: Global, values: &[i64]) -> Result<Vec<u8>, AllocError> {
     Ok(text)
 }
 
-// Writes whether the record behind a program of so many bytes is that of a run of it.
+// Writes whether the record after a program of the given number of bytes is that of a run of it.
 fn tell_followed(rt: HostRuntime, text: &[u8], len: usize) -> io::Result<()> {
     if len > text.len() {
         return rt.println("no program");

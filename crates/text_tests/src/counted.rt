@@ -15,7 +15,7 @@ impl Scripted {
         Scripted { answers, calls: 0 }
     }
 
-    // The answer to the next call.
+    // Returns the answer to the next call.
     fn call(&mut self) -> io::Result<usize> {
         let answer = self.answers.get(self.calls).copied();
         self.calls = self.calls.saturating_add(1);

@@ -70,9 +70,9 @@ def cases_of_runs(program):
             ("values", ["values"], LONG_ROWS),
             ("a run by one thread", ["run", "-w", "1"], LONG_ROWS),
             ("a run that a seed draws", ["run", "--seed", "3", "-w", "2"], 0),
-            ("why", ["why"], LONG_ROWS, LONG_EVENTS)]:
+            ("why", ["why"], LONG_ROWS)]:
         yield from cases_of(program, name, words, source, *phases, output=output if words == ["values"] else None)
-    yield from cases_of(view_of(program), "boc-view", ["text"], source, LONG_ROWS, LONG_EVENTS)
+    yield from cases_of(view_of(program), "boc-view", ["text"], source, LONG_ROWS)
 
 
 def cases_of_records(program):

@@ -168,6 +168,7 @@ fn last_line_before(room: &mut [u8], event: &Event) -> usize
 }
 
 // Forms the line of an event before what a room has from a place on, and says where it begins.
+#[inline(always)]
 fn line_before(room: &mut [u8], place: usize, event: &Event) -> usize
     requires room { (MOST_BYTES ≤ place) × (place ≤ length room.old) }
     ensures written { drop result room.new ≡ line (event_line Second event.now) ++ drop place room.old }

@@ -1,0 +1,3 @@
+pub mod Firsts
+pub mod OneFirst
+pub mod Bounds

@@ -104,7 +104,7 @@ hand_on u t (hands.Leaving l) same fits = releases_on u t l.row (same l.row refl
 -- ---- thinking
 
 -- what a body means is what its member does
-meant : (p : Program) (m : Member) (f : Framed) → slice_get p.bodies m.behaviour.kind ≡ Some f.body → f.args ≡ m.behaviour.args → f.inputs ≡ m.inputs
+pub meant : (p : Program) (m : Member) (f : Framed) → slice_get p.bodies m.behaviour.kind ≡ Some f.body → f.args ≡ m.behaviour.args → f.inputs ≡ m.inputs
     → meaning_of p m ≡ Some (meaning f.body f.args f.inputs)
 meant p m f body args inputs =
     ap (λ o. option_map (λ b. meaning b m.behaviour.args m.inputs) o) body

@@ -44,3 +44,4 @@ pub mod Growing
 pub mod Staying
 pub mod Telling
 pub mod TellingRows
+pub mod NextCalls

@@ -11,3 +11,4 @@ pub mod Stepping
 pub mod KeptArguments
 pub mod KeptStages
 pub mod Told
+pub mod NextCalls

@@ -75,12 +75,15 @@ ghost use Rattle.boc_dispatch.specs.declared.worker.Due.TheVariants as dues;
 ghost use Rattle.boc_dispatch.specs.declared.worker.Hand.TheVariants as hands;
 ghost use Rattle.boc_runs.specs.machine.Sound.{IsSound};
 ghost use Rattle.boc_dispatch.specs.Driving.{HandFits, KeepsFitting};
+ghost use Rattle.boc_dispatch.specs.NextCalls.{HasNoThought, TellsCallOf};
 ghost use Rattle.boc_dispatch.specs.Stepping.{CanTurn};
+ghost use Rattle.boc_dispatch.specs.Underway.{Underway};
 ghost use Rattle.boc_dispatch.specs.Told.{HasTold, IsTold, TellsEnding, TellsOf};
 ghost use Rattle.boc_dispatch.specs.Working.{row_in, frame_of as frame_at_start, Enqueues, Goes, HasGiven, HasGoneOn, HasThought, IsDone, IsEnded, IsStarted};
 ghost use Rattle.boc_dispatch.specs.Working.{Wishes, Works};
 ghost use Rattle.boc_dispatch.specs.declared.calls.Child.{Child};
-ghost use Rattle.boc_eval.specs.Frames.{UnderWay as Framed};
+ghost use Rattle.boc_eval.specs.Frames.{UnderWay as Framed, last_wish_of};
+ghost use Rattle.std.specs.Option.{option_map};
 
 // Returns whether a row whose body gave this has to be reported.
 fn is_told(tell: Tell, outcome: &Outcome<'_>) -> bool
@@ -90,6 +93,16 @@ fn is_told(tell: Tell, outcome: &Outcome<'_>) -> bool
         Tell::Nothing => false,
         Tell::All => true,
         Tell::Faulted => outcome.status() != EndStatus::Done,
+    }
+}
+
+// Returns the offset of the wish of a frame that came last, if any has.
+fn offset_of(frame: &Frame<'_>) -> Option<u32>
+    ensures { result ≡ option_map (λ wish. wish.offset) (last_wish_of frame.now) }
+{
+    match frame.last_wish() {
+        Some(wish) => Some(wish.offset),
+        None => None,
     }
 }
 
@@ -170,6 +183,22 @@ impl<'a> Worker<'a> {
             },
             Hand::Leaving(leaving) => core.can_leave(leaving),
             _ => true,
+        }
+    }
+
+    /// Returns at how many ticks of its row its next call begins, once it has thought: at the offset of the row's next wish, or at the row's end. If it serves no
+    /// row, or a call has begun and isn't over, there is none.
+    pub fn call_at(&self) -> Option<u32>
+        ensures { (u : Underway) → IsSound u.program u.state → HandFits u self.now.hand → HasNoThought self.now.hand
+            → TellsCallOf u.program u.state (row_in self.now.hand) result }
+    {
+        match &self.hand {
+            Hand::Framed(_, frame, due) => match due {
+                Due::Wishing => offset_of(frame),
+                _ => None,
+            },
+            Hand::Done(_, outcome) => Some(outcome.ticks()),
+            _ => None,
         }
     }
 

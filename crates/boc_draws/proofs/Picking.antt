@@ -151,7 +151,7 @@ order_among order falls steps movers (w, has, among) = (w, order_keeps order fal
 
 -- ---- picks
 
-stands_there : (xs : List ℕ) (place x : ℕ) → slice_get xs place ≡ Some x → Contains xs x
+pub stands_there : (xs : List ℕ) (place x : ℕ) → slice_get xs place ≡ Some x → Contains xs x
 stands_there xs place x is = (place, place_below xs place x is, get_or_from_slice_get xs place x x is)
 
 pub picked_is_there : (picker : Picker) (steps : ℕ) (movers : List ℕ) (x : ℕ) (on : Picker) → picked picker steps movers ≡ (Some x, on) → Contains movers x

@@ -68,7 +68,7 @@ plays_first p workers way seed u crew picker idle is first =
       all = subst (λ (q : Picker). HasAll q workers) (sym first) (all_first way workers seed);
     }
 
-at_longer : (p : Program) (workers : ℕ) (xs : List ℕ) (x : ℕ) (u : Underway) (crew : List Worker) → IsAt p workers xs (length xs) u crew
+pub at_longer : (p : Program) (workers : ℕ) (xs : List ℕ) (x : ℕ) (u : Underway) (crew : List Worker) → IsAt p workers xs (length xs) u crew
     → IsAt p workers (xs ++ x ∷ []) (length xs) u crew
 at_longer p workers xs x u crew h = record {
   program = h.program;
@@ -101,12 +101,12 @@ without_fault (Ok x) none on = on
 without_fault (Err f) none on = absurd (none f refl)
 
 -- what isn't empty has some
-none_or_some : (xs : List ℕ) → (xs ≡ [] → ⊥) → 0 < length xs
+pub none_or_some : (xs : List ℕ) → (xs ≡ [] → ⊥) → 0 < length xs
 none_or_some [] some = absurd (some refl)
 none_or_some (x ∷ xs) some = omega arith
 
 -- one that can move and has a turn makes a step
-makes_step : (u : Underway) (k : IsSound u.program u.state) (row : Option ℕ) (t : State) (after : Option ℕ) → CanTurn u row
+pub makes_step : (u : Underway) (k : IsSound u.program u.state) (row : Option ℕ) (t : State) (after : Option ℕ) → CanTurn u row
     → TakesTurn u.program u.state row t after → t.steps ≡ u.state.steps + 1
 makes_step u k row t after (inl m) turn =
     let one = takes_one u.program u.state k row t m.state after m.after turn m.takes in ap (λ (s : State). s.steps) one.0 ∙ m.steps

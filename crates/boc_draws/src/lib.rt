@@ -14,4 +14,5 @@ pub use at_depth::way_of;
 pub use boc_program::count::Depth;
 pub use drawing::{Drawn, draw};
 pub use fault::DrawFault;
+pub use movers::movers_of;
 pub use way::Way;

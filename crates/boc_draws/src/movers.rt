@@ -1,4 +1,4 @@
-// Who can move.
+//! Who can move.
 
 ghost use Rattle.std.specs.Prelude.{◌≤◌, length};
 ghost use Rattle.boc_program.specs.declared.limits.TheConstants.{MOST_RUNNERS};
@@ -10,11 +10,9 @@ use arrayvec::ArrayVec;
 use boc_dispatch::{Dispatcher, Worker};
 use boc_program::limits::MOST_RUNNERS;
 
-/// Returns the numbers of the workers of a crew that can move, in rising order.
-pub(crate) fn movers_of<'a>(
-    crew: &[Worker<'a>],
-    core: &Dispatcher<'a>,
-) -> ArrayVec<u32, MOST_RUNNERS>
+/// Returns the numbers of the workers of a crew that can move, in rising order. A crew has at most [`MOST_RUNNERS`] workers, and what they have in hand is what
+/// the dispatcher handed out.
+pub fn movers_of<'a>(crew: &[Worker<'a>], core: &Dispatcher<'a>) -> ArrayVec<u32, MOST_RUNNERS>
     requires few { length crew.now ≤ MOST_RUNNERS }
     requires sound { IsSound core.now.program core.now.state }
     requires fits { IsCrew core.now crew.now }

@@ -1,0 +1,9 @@
+pub mod Playing
+pub mod OneTimed
+pub mod OneTimetable
+pub mod ByOne
+pub mod Ended
+pub mod Places
+pub mod Starting
+pub mod Starts
+pub mod Noting

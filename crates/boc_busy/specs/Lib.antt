@@ -1,0 +1,4 @@
+pub mod Busy
+pub mod Keeping
+pub mod Stints
+pub mod Timed

@@ -74,6 +74,10 @@ cowns_flag = flag (codes "cowns")
 abbrev pub spawns_flag : Argument
 spawns_flag = flag (codes "spawns")
 
+-- `--timed`, by which ticks are time for the workers
+abbrev pub timed_flag : Argument
+timed_flag = flag (codes "timed")
+
 -- `--all`, by which all of a chain is told
 abbrev pub all_flag : Argument
 all_flag = flag (codes "all")
@@ -121,12 +125,12 @@ abbrev pub signature_of : Kind → Text × List Argument
 signature_of kinds.Values = (codes "values", repeated record_file ∷ quiet_flag ∷ input_operand ∷ [])
 signature_of kinds.Check = (codes "check", repeated program_file ∷ input_operand ∷ [])
 signature_of kinds.Run =
-    (codes "run", number runners_option ∷ number seed_option ∷ number depth_option ∷ quiet_flag ∷ input_operand ∷ [])
+    (codes "run", number runners_option ∷ number seed_option ∷ number depth_option ∷ timed_flag ∷ quiet_flag ∷ input_operand ∷ [])
 signature_of kinds.Profile =
     (codes "profile", number workers_option ∷ sharing_flag ∷ no_plan_flag ∷ quiet_flag ∷ input_operand ∷ [])
 signature_of kinds.Time = (
   codes "time",
-  number runners_option ∷ number seed_option ∷ number depth_option ∷ number workers_option ∷ sharing_flag ∷ no_plan_flag ∷ quiet_flag
+  number runners_option ∷ number seed_option ∷ number depth_option ∷ timed_flag ∷ number workers_option ∷ sharing_flag ∷ no_plan_flag ∷ quiet_flag
       ∷ input_operand ∷ [],
 )
 signature_of kinds.WhatIf = (
@@ -139,12 +143,12 @@ signature_of kinds.Sweep =
     (codes "sweep", number workers_option ∷ cowns_flag ∷ spawns_flag ∷ sharing_flag ∷ number best_option ∷ input_operand ∷ [])
 signature_of kinds.Why = (
   codes "why",
-  number runners_option ∷ number seed_option ∷ number depth_option ∷ number workers_option ∷ sharing_flag ∷ repeated record_file
+  number runners_option ∷ number seed_option ∷ number depth_option ∷ timed_flag ∷ number workers_option ∷ sharing_flag ∷ repeated record_file
       ∷ repeated names_file ∷ all_flag ∷ quiet_flag ∷ input_operand ∷ [],
 )
 signature_of kinds.Cowns = (
   codes "cowns",
-  number runners_option ∷ number seed_option ∷ number depth_option ∷ sharing_flag ∷ repeated record_file ∷ repeated names_file
+  number runners_option ∷ number seed_option ∷ number depth_option ∷ timed_flag ∷ sharing_flag ∷ repeated record_file ∷ repeated names_file
       ∷ number top_option ∷ quiet_flag ∷ input_operand ∷ [],
 )
 signature_of kinds.Outcomes =

@@ -1,6 +1,6 @@
 -- What the words of a command line ask for.
 use Rattle.std.specs.Prelude.{◌≡◌, ◌<◌, ◌≤◌, ◌+◌, ◌^◌, ◌++◌, ◌⊎◌, ◌≢◌, ℕ, List, [], ◌∷◌, Option, Some, None, Bool, true, false, String}
-use Rattle.std.specs.Prelude.{map, fold, not, unwrap_or, length, codes, string_bytes}
+use Rattle.std.specs.Prelude.{map, min, fold, not, unwrap_or, length, codes, string_bytes}
 use Rattle.std.specs.Global.{Global}
 use Rattle.std.specs.List.{All, AllZip, filter, sum_by}
 use Rattle.std.specs.Str.Parse.{IsNumeral, digits_value, without_leading_plus}
@@ -12,7 +12,7 @@ use Rattle.clap.specs.declared.builder.command.Command.TheViews.{out-Command}
 use Rattle.clap.specs.declared.error.Error.{Error}
 use Rattle.clap.specs.declared.error.kind.ErrorKind.{ErrorKind}
 use Rattle.clap.specs.declared.error.kind.ErrorKind.TheVariants as kinds
-use Rattle.boc_program.specs.declared.limits.TheConstants.{MOST_WORKERS}
+use Rattle.boc_program.specs.declared.limits.TheConstants.{MOST_RUNNERS, MOST_WORKERS}
 use Rattle.boc_plans.specs.declared.sharing.Sharing.{Sharing}
 use Rattle.boc_plans.specs.declared.sharing.Sharing.TheVariants.{Exclusive, SharedReads}
 use Rattle.boc_plans.specs.declared.sweep.Sweep.{Sweep}
@@ -99,13 +99,40 @@ AreUpTo rows number = GivesOr MOST_WORKERS workers_option rows number
 abbrev pub AreRunners : List Row → ℕ → Type 0
 AreRunners rows number = GivesOr 1 runners_option rows number
 
--- How a program is to be run: where no `--seed` was given, and then no `--depth` either, by so many threads; and with a seed as it draws, at this
--- depth where one was given.
-abbrev pub IsSchedule : List Row → Schedule → Type 0
-IsSchedule rows (schedules.Threads runners) =
+-- the flag was given
+abbrev pub IsSet : List Row → Text → Type 0
+IsSet rows id = values_at rows id ≡ codes "true" ∷ []
+
+-- the flag was not given
+abbrev pub IsUnset : List Row → Text → Type 0
+IsUnset rows id = values_at rows id ≢ codes "true" ∷ []
+
+-- How a program is to be run without `--timed`: where no `--seed` was given, and then no `--depth` either, by so many threads; and with a seed as it
+-- draws, at this depth where one was given.
+abbrev pub IsUntimed : List Row → Schedule → Type 0
+IsUntimed rows (schedules.Threads runners) =
     AreRunners rows runners × GivesNumber seed_option rows None × GivesNumber depth_option rows None
-IsSchedule rows (schedules.Drawn workers seed depth) =
+IsUntimed rows (schedules.Drawn workers seed depth) =
     AreRunners rows workers × GivesNumber seed_option rows (Some seed) × GivesNumber depth_option rows depth
+IsUntimed rows (schedules.Timed workers) = ⊥
+
+-- For so many workers ticks are time: as many as `--workers` says; where it wasn't given, as many as `--p` says, but no more than there may be; and where
+-- neither was given, as many as there may be.
+abbrev pub AreTimedWorkers : List Row → ℕ → Type 0
+AreTimedWorkers rows number =
+    ((p : ℕ) × AreWorkers rows (Some p) × GivesOr (min p MOST_RUNNERS) runners_option rows number)
+    ⊎ (AreWorkers rows None × GivesOr MOST_RUNNERS runners_option rows number)
+
+-- How a program is to be run: with `--timed`, and then no `--seed` and no `--depth`, by workers that take ticks as time; and else as it is without.
+abbrev pub IsSchedule : List Row → Schedule → Type 0
+IsSchedule rows (schedules.Timed workers) =
+    IsSet rows (codes "timed") × AreTimedWorkers rows workers × GivesNumber seed_option rows None × GivesNumber depth_option rows None
+IsSchedule rows (schedules.Threads runners) = IsUnset rows (codes "timed") × IsUntimed rows (schedules.Threads runners)
+IsSchedule rows (schedules.Drawn workers seed depth) = IsUnset rows (codes "timed") × IsUntimed rows (schedules.Drawn workers seed depth)
+
+-- `--timed` was given, and `--seed` too
+abbrev pub IsDrawnAndTimed : List Row → Type 0
+IsDrawnAndTimed rows = IsSet rows (codes "timed") × (values_at rows seed_option.id ≢ [])
 
 -- `--depth` was given, and no `--seed`
 abbrev pub LacksSeed : List Row → Type 0
@@ -118,14 +145,6 @@ pub record AreDraws (rows : List Row) (draws : AskedDraws) : Type 0 where
   pub seed : GivesOr 0 seed_option rows draws.seed
   pub workers : GivesOr 4 runners_option rows draws.workers
   pub depth : GivesNumber depth_option rows draws.depth
-
--- the flag was given
-abbrev pub IsSet : List Row → Text → Type 0
-IsSet rows id = values_at rows id ≡ codes "true" ∷ []
-
--- the flag was not given
-abbrev pub IsUnset : List Row → Text → Type 0
-IsUnset rows id = values_at rows id ≢ codes "true" ∷ []
 
 -- `--shared-reads` was given, and what was only read is shared, or it was not, and cowns are exclusive
 abbrev pub AreShared : List Row → Sharing → Type 0
@@ -298,9 +317,23 @@ IsOfSweep rows _ = ⊥
 
 -- the fault is a conflict of a depth without a seed, or says that the number behind `--workers`, `--seed` or `--depth` cannot be read, or that memory was
 -- refused
+abbrev pub IsOfUntimed : List Row → WordsFault → Type 0
+IsOfUntimed rows (faults.Parser e) =
+    MissesNumber (runners_option ∷ seed_option ∷ depth_option ∷ []) rows ⊎ ((kind_of e ≡ kinds.ArgumentConflict) × LacksSeed rows)
+IsOfUntimed rows faults.Memory = Unit {0}
+IsOfUntimed rows _ = ⊥
+
+-- the fault says that the number behind `--workers` or `--p` cannot be read, or that memory was refused
+abbrev pub IsOfTimedWorkers : List Row → WordsFault → Type 0
+IsOfTimedWorkers rows (faults.Parser e) = MissesNumber (runners_option ∷ workers_option ∷ []) rows
+IsOfTimedWorkers rows faults.Memory = Unit {0}
+IsOfTimedWorkers rows _ = ⊥
+
+-- the fault is one of these, or a conflict of `--timed` and a seed
 abbrev pub IsOfSchedule : List Row → WordsFault → Type 0
 IsOfSchedule rows (faults.Parser e) =
-    MissesNumber (runners_option ∷ seed_option ∷ depth_option ∷ []) rows ⊎ ((kind_of e ≡ kinds.ArgumentConflict) × LacksSeed rows)
+    MissesNumber (runners_option ∷ seed_option ∷ depth_option ∷ workers_option ∷ []) rows
+    ⊎ ((kind_of e ≡ kinds.ArgumentConflict) × (LacksSeed rows ⊎ IsDrawnAndTimed rows))
 IsOfSchedule rows faults.Memory = Unit {0}
 IsOfSchedule rows _ = ⊥
 
@@ -369,10 +402,10 @@ abbrev pub HasInputs : Kind → List Row → Type 0
 HasInputs kind rows = 2 ≤ length (input_words kind rows)
 
 -- what the parser takes for this command does not fit, for a conflict: of a sweep, options that are at odds; of a command that runs a program by a
--- schedule, a depth without a seed; of any command, more files than one beside its input, or for it
+-- schedule, a depth without a seed, or `--timed` with a seed; of any command, more files than one beside its input, or for it
 pub record IsUnfit (kind : Kind) (rows : List Row) (error : ErrorKind) : Type 0 where
   pub conflict : error ≡ kinds.ArgumentConflict
-  pub why : ((kind ≡ called.Sweep) × AreAtOdds rows) ⊎ ((HasSchedule kind × LacksSeed rows)
+  pub why : ((kind ≡ called.Sweep) × AreAtOdds rows) ⊎ ((HasSchedule kind × (LacksSeed rows ⊎ IsDrawnAndTimed rows))
       ⊎ (AreTooMany (files_of kind) rows ⊎ HasInputs kind rows))
 
 -- a command was named, and what was found for it does not fit, for an error of this kind

@@ -102,6 +102,12 @@ pub(crate) const DEPTH: NumberOption = NumberOption {
     help: "With --seed, use random priorities of depth D, 1 to 16",
 };
 
+/// Whether ticks are time for the workers.
+pub(crate) const TIMED: FlagOption = FlagOption {
+    id: "timed",
+    help: "Simulate N workers with ticks as time; 16 without -w",
+};
+
 /// How many runs are drawn.
 pub(crate) const RUNS: NumberOption = NumberOption {
     id: "runs",
@@ -189,7 +195,7 @@ pub(crate) const SHORT: FlagOption = FlagOption {
 /// Whether the rows of plans are left out.
 pub(crate) const NO_PLAN: FlagOption = FlagOption {
     id: "no-plan",
-    help: "Do not print the plan or the rows of the greedy plan",
+    help: "Do not print the rows of plans, nor of a timed run",
 };
 
 /// How many lines of a sweep are printed.

@@ -10,7 +10,7 @@ use crate::arguments::Argument::{Flag, Number, Repeated, Word, Words};
 use crate::arguments::{
     ALL, Argument, BEST, CURVE_WORKERS, DEPTH, DRAWN_DEPTH, DRAWN_WORKERS, EDITS, FIRST_SEED,
     INPUT, NAMES, NO_PLAN, PROGRAM, QUIET, RECORD, RUNNERS, RUNNERS_ALONE, RUNS, SEED, SHARING,
-    SHORT, SWEEP_COWNS, SWEEP_SPAWNS, SWEEP_WORKERS, TOP, WHY_WORKERS, WITHOUT, WORKERS,
+    SHORT, SWEEP_COWNS, SWEEP_SPAWNS, SWEEP_WORKERS, TIMED, TOP, WHY_WORKERS, WITHOUT, WORKERS,
 };
 use crate::version::VERSION;
 use boc_program::limits::{
@@ -84,6 +84,13 @@ Depth: with --depth, the workers are in a random order (random priorities, as in
 PCT). At each turn the first one that can move does. Before D - 1 steps or
 fewer, which are drawn too, the one that would move drops to the last place.
 
+Timed runs: --timed simulates N workers on one thread that take ticks as time.
+Each is busy with a row for as many ticks as the row takes. The row that has
+been ready longest goes to the idle worker with the lowest number. Nothing is
+drawn: the same program and N give the same run on every machine. N is that of
+-w; else the P of -p, where a command takes it, but at most 16; else 16. A run
+on more workers can end later. Not with --seed.
+
 Examples:
   boc run -w 4 program.boc > run.record
   boc run -w 4 --seed 3 program.boc | boc profile
@@ -107,6 +114,11 @@ Output:
   ROW START END WORKER    With --p, a row of the greedy plan (list schedule)
   end END bound BOUND     The end of the greedy plan, and the tick by which it
                           ends at the latest: work / P rounded down, plus span
+  timed N
+  ROW START END WORKER    Of `time --timed`: when the row ran, on which worker
+  end END bound BOUND     The end of the run, and the tick by which it ends at
+                          the latest: work / N rounded down, plus the span
+                          without --shared-reads, which the run doesn't know
 All numbers are ticks, except rows, workers and P. Rows and workers count from
 0. --p plans what has run: no thread executes a plan.
 
@@ -172,7 +184,9 @@ Output:
   rows, work, span
       Number of rows (main, and each behaviour of the run), their ticks
       together, and when the last row ends if each has a worker, with the spawns
-      and the orders on the cowns of this run. Other runs may differ.
+      and the orders on the cowns of this run. Other runs may differ. With
+      --timed, `end E on N workers`: when the run itself was over. All that
+      follows is about the span. Workers are short if E is greater.
   chain
       The critical path, from main to a row that ends last:
         tick       When the row starts
@@ -233,10 +247,11 @@ numbers. Lines of a file of names:
   = ROW NAME [ARG ..]    The name of a row; rows of one NAME are one def
 The file may have blank lines and lines that begin with #.
 
-Threads run the program, and -w is their number. A plan runs nothing: --p plans
-the run on P workers, and with --shared-reads the span, the chain and all below
-are those of plans in which rows that only read a cown share it. The options -w,
---seed and --depth have no effect on a run that comes from a record.
+Threads run the program, and -w is their number; with --seed or --timed it is
+that of simulated workers. A plan runs nothing: --p plans the run on P workers,
+and with --shared-reads the span, the chain and all below are those of plans in
+which rows that only read a cown share it. The options -w, --seed, --depth and
+--timed have no effect on a run that comes from a record.
 
 Examples:
   boc why program.boc
@@ -288,9 +303,9 @@ Then comes a lower bound for any order, as in boc why, and the span with
 --shared-reads if that is smaller.
 
 Names are those of the program or of the file for --names, which boc help why
-describes. Without either, cowns have their numbers. -w, --seed and --depth have
-no effect on a run that comes from a record. With more threads the numbers
-change only if spawns or cowns come in another order.
+describes. Without either, cowns have their numbers. -w, --seed, --depth and
+--timed have no effect on a run that comes from a record. With more threads, or
+with --timed, the numbers change only if spawns or cowns come in another order.
 
 Examples:
   boc cowns --top 3 program.boc
@@ -429,7 +444,8 @@ Exit statuses:
 
 Examples:
   boc values program.boc             Print the values after its serial run
-  boc why -w 4 program.boc           Show what limits a run on four threads
+  boc why program.boc                Show what limits the run of one worker
+  boc time --timed -w 4 program.boc  Show when four workers would run what
   boc run program.boc | boc check    Record a run, and check the record
 
 See also: boc COMMAND -h, boc help COMMAND, boc-view --help.";
@@ -515,6 +531,7 @@ const RUN: Entry = Entry {
         Number(RUNNERS_ALONE),
         Number(SEED),
         Number(DEPTH),
+        Flag(TIMED),
         Flag(QUIET),
         Word(INPUT),
     ],
@@ -541,6 +558,7 @@ const TIME: Entry = Entry {
         Number(RUNNERS),
         Number(SEED),
         Number(DEPTH),
+        Flag(TIMED),
         Number(WORKERS),
         Flag(SHARING),
         Flag(NO_PLAN),
@@ -594,6 +612,7 @@ const WHY: Entry = Entry {
         Number(RUNNERS),
         Number(SEED),
         Number(DEPTH),
+        Flag(TIMED),
         Number(WHY_WORKERS),
         Flag(SHARING),
         Repeated(RECORD),
@@ -612,6 +631,7 @@ const COWNS: Entry = Entry {
         Number(RUNNERS_ALONE),
         Number(SEED),
         Number(DEPTH),
+        Flag(TIMED),
         Flag(SHARING),
         Repeated(RECORD),
         Repeated(NAMES),

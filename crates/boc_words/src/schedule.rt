@@ -14,4 +14,6 @@ pub enum Schedule {
         seed: u64,
         depth: Option<Depth>,
     },
+    /// As the given number of workers on one thread that take ticks as time.
+    Timed(Runners),
 }

@@ -8,6 +8,7 @@ ghost use Rattle.boc_words.specs.Words.{AreCowns, AreEdits, AreNamesFrom, AreRun
 ghost use Rattle.boc_words.specs.Words.{GivesFile, GivesNumber, IsAsked, IsCownText, IsGiven, IsMisnamed, IsNamed, IsOfEditWords, IsOfError};
 ghost use Rattle.boc_words.specs.Words.{IsOfFiles, IsOfKind, IsOfNoText, IsOfNumber, IsOfSweep, IsOver, IsRefused, IsRunFile, IsTextOfKind, IsUnread};
 ghost use Rattle.boc_words.specs.Words.{AreDraws, AreEditsOf, GivesOr, IsOfDraws, IsOfInput, IsOfPaths, IsOfSchedule, IsOfWords, IsPathOf, IsSchedule};
+ghost use Rattle.boc_words.specs.Words.{AreTimedWorkers, IsOfTimedWorkers, IsOfUntimed, IsUntimed};
 ghost use Rattle.boc_words.specs.Words.{ArePlans, ReadsFrom};
 ghost use Rattle.boc_words.specs.Words.{command_line, values_at};
 ghost use Rattle.std.specs.List.{filter};
@@ -18,8 +19,8 @@ ghost use Rattle.std.specs.Prelude.{◌≡◌, ◌∷◌, ◌<◌, ◌^◌, ◌�
 
 use crate::arguments::{
     ALL, BEST, DEPTH, EDITS, INPUT, NAMES, NO_PLAN, NumberOption, Numbers, PROGRAM, QUIET, RECORD,
-    RUNNERS, RUNS, RepeatedOption, SEED, SHARING, SHORT, SWEEP_COWNS, SWEEP_SPAWNS, TOP, WITHOUT,
-    WORKERS,
+    RUNNERS, RUNS, RepeatedOption, SEED, SHARING, SHORT, SWEEP_COWNS, SWEEP_SPAWNS, TIMED, TOP,
+    WITHOUT, WORKERS,
 };
 use crate::asked::{
     AskedCown, AskedCowns, AskedDraws, AskedEdit, AskedPlans, AskedWhy, NamesFrom, RunFile,
@@ -31,7 +32,7 @@ use crate::schedule::Schedule;
 use boc_plans::sharing::Sharing;
 use boc_plans::sweep::Sweep;
 use boc_program::count::{Depth, Runners, Runs, Workers};
-use boc_program::limits::MOST_WORKERS;
+use boc_program::limits::{MOST_RUNNERS, MOST_WORKERS};
 use boc_program::short::CownNo;
 use clap::ArgMatches;
 use clap::error::ErrorKind;
@@ -452,10 +453,44 @@ fn runners_asked(alloc: Global, matches: &ArgMatches) -> Result<Runners, WordsFa
     }
 }
 
-// Returns how the words have a program run: by threads, or as a seed draws. A depth without a seed is a fault.
+// Returns how the words have a program run: by threads, as a seed draws, or by workers that take ticks as time. A depth without a seed is a fault, and so is a
+// seed for workers that take ticks as time.
 fn schedule_asked(alloc: Global, matches: &ArgMatches) -> Result<Schedule, WordsFault>
     ensures asked { IfOk result (IsSchedule (rows_of (found_of matches.now))) }
     ensures refused { IfErr result (IsOfSchedule (rows_of (found_of matches.now))) }
+{
+    let schedule = untimed_asked(alloc, matches)?;
+    if !is_set(texts_at(matches, TIMED.id)) {
+        return Ok(schedule);
+    }
+    match schedule {
+        Schedule::Drawn { .. } => Err(at_odds(
+            alloc,
+            "the argument '--timed' cannot be used with '--seed <S>'",
+        )),
+        _ => Ok(Schedule::Timed(timed_workers_asked(alloc, matches)?)),
+    }
+}
+
+// Returns for how many workers the words have ticks be time: as many as `--workers` says; else as many as `--p` says, where there may be as many; else as many
+// as there may be.
+fn timed_workers_asked(alloc: Global, matches: &ArgMatches) -> Result<Runners, WordsFault>
+    ensures asked { IfOk result (AreTimedWorkers (rows_of (found_of matches.now))) }
+    ensures refused { IfErr result (IsOfTimedWorkers (rows_of (found_of matches.now))) }
+{
+    let workers = workers_asked(alloc, matches)?;
+    let usual = match workers {
+        Some(workers) => u64::from(workers.number().min(MOST_RUNNERS as u32)),
+        None => MOST_RUNNERS as u64,
+    };
+    let number = number_or(alloc, matches, &RUNNERS, usual)?;
+    Ok(Runners::new(number as u32).unwrap())
+}
+
+// Returns how the words have a program run without `--timed`: by threads, or as a seed draws. A depth without a seed is a fault.
+fn untimed_asked(alloc: Global, matches: &ArgMatches) -> Result<Schedule, WordsFault>
+    ensures asked { IfOk result (IsUntimed (rows_of (found_of matches.now))) }
+    ensures refused { IfErr result (IsOfUntimed (rows_of (found_of matches.now))) }
 {
     let workers = runners_asked(alloc, matches)?;
     let seed = number_asked(alloc, matches, &SEED)?;

@@ -11,7 +11,7 @@ use Rattle.boc_words.specs.Words.{AreAtOdds, AreCowns, AreDraws, AreRunners, Are
 use Rattle.boc_words.specs.Words.{LacksSeed, Names}
 use Rattle.boc_words.specs.Words.{command_line, values_at}
 use Rattle.boc_words.specs.declared.commands.Kind.TheVariants as called
-use Rattle.boc_words.specs.declared.schedule.Schedule.TheVariants.{Drawn}
+use Rattle.boc_words.specs.declared.schedule.Schedule.TheVariants.{Drawn, Timed}
 use Rattle.boc_plans.specs.declared.edit.Change.TheVariants.{Offset, Ticks, Cost}
 use Rattle.boc_plans.specs.declared.sharing.Sharing.TheVariants.{Exclusive, SharedReads}
 use Rattle.boc_plans.specs.declared.sweep.Sweep.TheVariants as sweep
@@ -184,9 +184,33 @@ drawn_named = (
   _,
   refl,
   (
-    inr (record { text = codes "3"; alone = refl; says = record { numeral = (lit≤ tt, (lit≤ tt, tt)); value = refl } }),
-    record { text = codes "7"; alone = refl; says = record { numeral = (lit≤ tt, (lit≤ tt, tt)); value = refl } },
-    record { text = codes "2"; alone = refl; says = record { numeral = (lit≤ tt, (lit≤ tt, tt)); value = refl } },
+    (λ e. cc),
+    (
+      inr (record { text = codes "3"; alone = refl; says = record { numeral = (lit≤ tt, (lit≤ tt, tt)); value = refl } }),
+      record { text = codes "7"; alone = refl; says = record { numeral = (lit≤ tt, (lit≤ tt, tt)); value = refl } },
+      record { text = codes "2"; alone = refl; says = record { numeral = (lit≤ tt, (lit≤ tt, tt)); value = refl } },
+    ),
+  ),
+)
+
+abbrev timed_words : List Text
+timed_words = codes "boc" ∷ codes "time" ∷ codes "--timed" ∷ codes "-p" ∷ codes "17" ∷ []
+
+pub timed_taken : AreTaken timed_words
+unfolding clap_on_literals
+timed_taken = refl
+
+-- there are no more than 16 workers
+pub timed_named : Names (subcommand_of command_line timed_words) called.Time (λ rows. IsSchedule rows (Timed 16))
+unfolding clap_on_literals digits
+timed_named = (
+  _,
+  refl,
+  (
+    refl,
+    inl (17, record { text = codes "17"; alone = refl; says = record { numeral = (lit≤ tt, (lit≤ tt, (lit≤ tt, tt))); value = refl } }, inl (refl, refl)),
+    refl,
+    refl,
   ),
 )
 

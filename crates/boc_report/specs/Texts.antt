@@ -70,10 +70,18 @@ served_text false starts ends workers = served_lines 0 starts ends workers
 abbrev pub bound_line : ℕ → ℕ → List ℕ
 bound_line last bound = codes "end " ++ decimal last ++ codes " bound " ++ decimal bound ++ codes "\n"
 
--- the greedy part of a report, without its rows or with them: the number of workers, the rows, and the end with its bound
+-- a part of a report on workers, without its rows or with them: the number of workers behind a word, the rows, and the end with its bound
+abbrev pub workers_text : List ℕ → Bool → ℕ → List ℕ → List ℕ → List ℕ → ℕ → ℕ → List ℕ
+workers_text word unplanned p starts ends workers last bound =
+    number_line word p ++ served_text unplanned starts ends workers ++ bound_line last bound
+
+-- the greedy part of a report
 abbrev pub greedy_text : Bool → ℕ → List ℕ → List ℕ → List ℕ → ℕ → ℕ → List ℕ
-greedy_text unplanned p starts ends workers last bound =
-    number_line (codes "greedy ") p ++ served_text unplanned starts ends workers ++ bound_line last bound
+greedy_text unplanned p starts ends workers last bound = workers_text (codes "greedy ") unplanned p starts ends workers last bound
+
+-- the part of a report on a timed run
+abbrev pub timed_text : Bool → ℕ → List ℕ → List ℕ → List ℕ → ℕ → ℕ → List ℕ
+timed_text unplanned p starts ends workers last bound = workers_text (codes "timed ") unplanned p starts ends workers last bound
 
 -- the line of a point of a curve: the number of workers, the end of their greedy plan, the tick before which no plan of theirs ends, and the
 -- tick by which the greedy one has ended

@@ -42,7 +42,7 @@ pub(crate) fn put_lines<L: Lines, W: Sink>(
     sink: &mut W,
 ) -> Result<(), Stopped>
     requires few { L.count lines.now ≤ MOST_LINES }
-    requires size { size out.old ≤ 2 * MOST_PART }
+    requires size { size out.old ≤ 3 * MOST_PART }
     requires failures { W.failures sink.old < u64.MAX }
     ensures goes_on { Puts (lines_from (L.line lines.now) 0 (L.count lines.now)) result out.old out.new (W.written sink.old) (W.written sink.new) }
     ensures size { OnOk result (size out.new ≤ size out.old + MOST_LINE * L.count lines.now) }

@@ -10,5 +10,5 @@ mod sweep_lines;
 
 pub use curve_lines::curve_text;
 pub use number_line::MOST_LINES;
-pub use profile_lines::{profile_text, write_report};
+pub use profile_lines::{profile_text, write_report, write_timed_report};
 pub use sweep_lines::{sweep_text, write_sweep};

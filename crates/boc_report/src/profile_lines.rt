@@ -7,14 +7,15 @@ ghost use Rattle.boc_report.specs.Texts.{report_head, report_text, step_line, st
 ghost use Rattle.boc_text.specs.Outgoing.{IsUnused, Puts, size};
 ghost use Rattle.boc_text.specs.Streams.{CountsFailure, StopsAt};
 ghost use Rattle.boc_text.specs.Writing.{CountsWrite, Writes};
-ghost use Rattle.boc_report.specs.Parts.{IsWhole, part_of};
+ghost use Rattle.boc_report.specs.Parts.{AreWhole, IsWhole, part_of, timed_part};
 ghost use Rattle.boc_report.specs.declared.number_line.TheConstants.{MOST_LINES, MOST_PART};
 ghost use Rattle.boc_report.specs.declared.profile_lines.TheConstants.{MOST_HEAD, MOST_STEP, MOST_ROW};
 ghost use Rattle.boc_report.specs.declared.by_line.TheConstants.{MOST_LINE};
 
 use crate::by_line::{Lines, put_lines};
-use crate::greedy_lines::put_greedy;
+use crate::greedy_lines::{put_greedy, put_timed};
 use crate::number_line::{MOST_FIELD, number_before, word_before};
+use boc_busy::TimedRows;
 use boc_greedy::Greedy;
 use boc_order::Profile;
 use boc_plans::chain::{ChainStep, Via};
@@ -55,6 +56,67 @@ pub fn write_report<W: Sink>(
     let mut out = Outgoing::new(alloc)?;
     send_report(&mut out, profile, greedy, unplanned, sink)?;
     Ok(())
+}
+
+/// Writes the same report on the rows of a timed run, and then the part on when they ran, and on which workers.
+pub fn write_timed_report<W: Sink>(
+    alloc: Global,
+    profile: &Profile,
+    greedy: Option<&Greedy>,
+    timed: &TimedRows,
+    unplanned: bool,
+    sink: &mut W,
+) -> Result<(), WriteFault>
+    requires plan { length profile.now.starts.items ≡ length profile.now.ends.items }
+    requires greedy { IfSome greedy (λ g. IsWhole g.now) }
+    requires timed { AreWhole timed.now }
+    requires few_steps { length profile.now.chain.steps.items ≤ MOST_LINES }
+    requires few_rows { length profile.now.starts.items ≤ MOST_LINES }
+    requires few_served { IfSome greedy (λ g. length g.now.starts.items ≤ MOST_LINES) }
+    requires few_timed { length timed.now.starts.items ≤ MOST_LINES }
+    requires failures { W.failures sink.old < u64.MAX }
+    ensures written { Writes
+        ((report_text unplanned profile.now.work profile.now.span profile.now.chain.steps.items profile.now.starts.items profile.now.ends.items
+        ++ part_of unplanned (option_map (λ g. g.now) greedy.entry)) ++ timed_part unplanned timed.now) result (W.written sink.old) (W.written sink.new) }
+    ensures failures { CountsWrite result (W.failures sink.old) (W.failures sink.new) }
+{
+    let mut out = Outgoing::new(alloc)?;
+    send_timed_report(&mut out, profile, greedy, timed, unplanned, sink)?;
+    Ok(())
+}
+
+// Sends the report on a timed run, of which nothing was formed yet.
+fn send_timed_report<W: Sink>(
+    out: &mut Outgoing,
+    profile: &Profile,
+    greedy: Option<&Greedy>,
+    timed: &TimedRows,
+    unplanned: bool,
+    sink: &mut W,
+) -> Result<(), Stopped>
+    requires plan { length profile.now.starts.items ≡ length profile.now.ends.items }
+    requires greedy { IfSome greedy (λ g. IsWhole g.now) }
+    requires timed { AreWhole timed.now }
+    requires few_steps { length profile.now.chain.steps.items ≤ MOST_LINES }
+    requires few_rows { length profile.now.starts.items ≤ MOST_LINES }
+    requires few_served { IfSome greedy (λ g. length g.now.starts.items ≤ MOST_LINES) }
+    requires few_timed { length timed.now.starts.items ≤ MOST_LINES }
+    requires unused { IsUnused out.old }
+    requires size { size out.old ≡ 0 }
+    requires failures { W.failures sink.old < u64.MAX }
+    ensures sent { MatchResult result
+        (λ _. Appends (W.written sink.old) (W.written sink.new)
+        ((report_text unplanned profile.now.work profile.now.span profile.now.chain.steps.items profile.now.starts.items profile.now.ends.items
+        ++ part_of unplanned (option_map (λ g. g.now) greedy.entry)) ++ timed_part unplanned timed.now))
+        (λ s. StopsAt s.gone
+        ((report_text unplanned profile.now.work profile.now.span profile.now.chain.steps.items profile.now.starts.items profile.now.ends.items
+        ++ part_of unplanned (option_map (λ g. g.now) greedy.entry)) ++ timed_part unplanned timed.now) (W.written sink.old) (W.written sink.new)) }
+    ensures failures { CountsFailure result (W.failures sink.old) (W.failures sink.new) }
+{
+    put_profile(out, profile, unplanned, sink)?;
+    put_part(out, greedy, unplanned, sink)?;
+    put_timed(out, timed, unplanned, sink)?;
+    out.send(sink)
 }
 
 /// Returns the text of the same report, in memory.

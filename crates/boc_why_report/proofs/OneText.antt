@@ -22,13 +22,14 @@ use Rattle.boc_order.specs.Least.{tick_of}
 use Rattle.boc_why.specs.Shares.{def_of}
 use Rattle.boc_why.specs.Why.{SayTheSame}
 use Rattle.boc_why_report.specs.declared.short.Outcome.{Outcome}
+use Rattle.boc_why_report.specs.declared.told.TimedEnd.{TimedEnd}
 use Rattle.boc_why_report.specs.ChainTexts.{Leg, are_of_one_def, before_last, behind_blank, chain_foot, chain_head, chain_sides, chain_text, common}
 use Rattle.boc_why_report.specs.ChainTexts.{folded_text, handed_text, hands_texts, inner_text, is_hand, is_spawn, last_leg, leg_texts, legs, link_text}
 use Rattle.boc_why_report.specs.ChainTexts.{rows_text, spawns_texts, stretch_lines, stretch_texts, then_text, told_chain}
 use Rattle.boc_why_report.specs.ShortTexts.{ComeToTheSame, chain_line, end_texts, greedy_texts, heaviest_text, more_shares, share_text, short_head}
 use Rattle.boc_why_report.specs.ShortTexts.{short_lines, short_sides, short_text, work_texts}
 use Rattle.boc_why_report.specs.WhyTexts.{at_most, beside, bound_text, busy_text, candidates_text, entry_texts, from_text, head_text, least_text}
-use Rattle.boc_why_report.specs.WhyTexts.{link_at, list_sides, reason_text, remedy_text, shares_head, shares_sides, shares_text, told_with}
+use Rattle.boc_why_report.specs.WhyTexts.{link_at, list_sides, reason_text, remedy_text, shares_head, shares_sides, shares_text, timed_end_text, told_with}
 
 module _ (a b : Names) (same : CallTheSame a b) where
   -- ---- the chain
@@ -111,15 +112,16 @@ module _ (a b : Names) (same : CallTheSame a b) where
         ((codes "candidates" ∷ codes "span" ∷ codes "less" ∷ [])
         ∷ at_most (map (λ (c : Candidate). entry_texts (remedy_same c.remedy i) c.span (alike.span i - c.span)) (alike.candidates i)))
 
-    head_same : head_text why ≡ head_text other
-    head_same = λ i. codes "rows " ++ decimal (length (alike.starts i)) ++ codes "   work " ++ decimal (alike.work i) ++ codes "   span "
-        ++ decimal (alike.span i) ++ codes "\n"
+    head_same : (timed : Option TimedEnd) → head_text why timed ≡ head_text other timed
+    head_same timed = λ i. codes "rows " ++ decimal (length (alike.starts i)) ++ codes "   work " ++ decimal (alike.work i) ++ codes "   span "
+        ++ decimal (alike.span i) ++ timed_end_text timed ++ codes "\n"
 
     least_same : least_text a sharing why.least ≡ least_text b sharing other.least
     least_same = least_text_same sharing why.least other.least alike.least
 
-    pub one_text : (all : Bool) → told_with a sharing why (told_chain a all why) ≡ told_with b sharing other (told_chain b all other)
-    one_text all = λ i. head_same i ++ codes "\n" ++ told_same all i ++ codes "\n" ++ shares_same i ++ candidates_same i ++ least_same i
+    pub one_text : (all : Bool) (timed : Option TimedEnd)
+        → told_with a sharing timed why (told_chain a all why) ≡ told_with b sharing timed other (told_chain b all other)
+    one_text all timed = λ i. head_same timed i ++ codes "\n" ++ told_same all i ++ codes "\n" ++ shares_same i ++ candidates_same i ++ least_same i
 
   -- ---- what is told in short
 

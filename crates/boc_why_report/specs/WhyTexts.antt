@@ -1,5 +1,5 @@
 -- What is told of why some rows take as long as they do.
-use Rattle.std.specs.Prelude.{◌≡◌, ◌-◌, ℕ, zero, suc, List, [], ◌∷◌, ◌++◌, length, map, take, cond, nat_lt, Bool, Option, Some, None, slice_get, codes, decimal}
+use Rattle.std.specs.Prelude.{◌≡◌, ◌-◌, ℕ, zero, suc, List, [], ◌∷◌, ◌++◌, length, map, take, cond, nat_eq, nat_lt, Bool, Option, Some, None, slice_get, codes, decimal}
 use Rattle.boc_plans.specs.declared.sharing.Sharing.{Sharing}
 use Rattle.boc_plans.specs.declared.sharing.Sharing.TheVariants.{Exclusive, SharedReads}
 use Rattle.boc_table.specs.declared.side.Side.{Side}
@@ -17,6 +17,7 @@ use Rattle.boc_why.specs.declared.remedies.Remedy.TheVariants.{HalfCost, NoOrder
 use Rattle.boc_why.specs.declared.remedies.Candidate.{Candidate}
 use Rattle.boc_why.specs.declared.why.Why.{Why}
 use Rattle.boc_why_report.specs.ChainTexts.{link_text, told_chain}
+use Rattle.boc_why_report.specs.declared.told.TimedEnd.{TimedEnd}
 use Rattle.boc_why_report.specs.declared.lists.Line.{Line}
 use Rattle.boc_why_report.specs.declared.lists.TheConstants.{MOST_LISTED}
 
@@ -106,11 +107,20 @@ candidates_text names why =
 
 -- ---- the rest
 
+-- the word after a number of workers
+abbrev pub workers_word : ℕ → Text
+workers_word workers = cond (nat_eq workers 1) (codes " worker") (codes " workers")
+
+-- the end of a timed run; nothing where there is none
+abbrev pub timed_end_text : Option TimedEnd → Text
+timed_end_text None = []
+timed_end_text (Some end) = codes "   end " ++ decimal end.tick ++ codes " on " ++ decimal end.workers ++ workers_word end.workers
+
 -- the numbers at the head
-abbrev pub head_text : Why → Text
-head_text why =
+abbrev pub head_text : Why → Option TimedEnd → Text
+head_text why timed =
     codes "rows " ++ decimal (length why.profile.starts.items) ++ codes "   work " ++ decimal why.profile.work ++ codes "   span "
-    ++ decimal why.profile.span ++ codes "\n"
+    ++ decimal why.profile.span ++ timed_end_text timed ++ codes "\n"
 
 -- what a cown is busy with: being held, or, where reads are shared, being written
 abbrev pub busy_text : Sharing → Text
@@ -147,14 +157,14 @@ abbrev pub least_text : Names → Sharing → Least → Text
 least_text names sharing least = bound_text (tick_of least) ++ reason_text names sharing least.spawns least.busiest ++ codes ")\n"
 
 -- All that is told, with this chain
-abbrev pub told_with : Names → Sharing → Why → Text → Text
-told_with names sharing why chain =
-    head_text why ++ codes "\n" ++ chain ++ codes "\n" ++ shares_text names why ++ candidates_text names why ++ least_text names sharing why.least
+abbrev pub told_with : Names → Sharing → Option TimedEnd → Why → Text → Text
+told_with names sharing timed why chain =
+    head_text why timed ++ codes "\n" ++ chain ++ codes "\n" ++ shares_text names why ++ candidates_text names why ++ least_text names sharing why.least
 
 -- What is told of why some rows take as long as they do. Where all of the chain is asked for it has a line for each step; else four or more steps of one def
 -- that follow each other stand in one line.
-pub record IsWhyText (names : Names) (sharing : Sharing) (all : Bool) (why : Why) (text : Text) : Type 0 where
-  pub is : text ≡ told_with names sharing why (told_chain names all why)
+pub record IsWhyText (names : Names) (sharing : Sharing) (all : Bool) (timed : Option TimedEnd) (why : Why) (text : Text) : Type 0 where
+  pub is : text ≡ told_with names sharing timed why (told_chain names all why)
 
 -- the line of a greedy plan for so many workers, with its end and its bound
 abbrev pub greedy_line : ℕ → ℕ → ℕ → Text

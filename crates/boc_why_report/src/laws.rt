@@ -1,19 +1,21 @@
 // Laws: what is reported has one text.
 
-ghost use Rattle.std.specs.Prelude.{◌≡◌, Bool};
+ghost use Rattle.std.specs.Prelude.{◌≡◌, Bool, Option};
 ghost use Rattle.boc_plans.specs.declared.sharing.Sharing.{Sharing};
 ghost use Rattle.boc_names.specs.declared.names.Names.{Names};
 ghost use Rattle.boc_names.specs.Names.{CallTheSame, Text};
 ghost use Rattle.boc_why.specs.declared.why.Why.{Why};
 ghost use Rattle.boc_why.specs.Why.{SayTheSame};
 ghost use Rattle.boc_why_report.specs.declared.short.Outcome.{Outcome};
+ghost use Rattle.boc_why_report.specs.declared.told.TimedEnd.{TimedEnd};
 ghost use Rattle.boc_why_report.specs.ShortTexts.{ComeToTheSame, short_text};
 ghost use Rattle.boc_why_report.specs.WhyTexts.{IsWhyText};
 
 /// Proves that whys that say the same have one text, in names that call everything the same.
 pub fn why_has_one_text()
-    ensures { (names other_names : Names) (sharing : Sharing) (all : Bool) (why other : Why) (text other_text : Text) → CallTheSame names other_names
-        → SayTheSame why other → IsWhyText names sharing all why text → IsWhyText other_names sharing all other other_text → text ≡ other_text }
+    ensures { (names other_names : Names) (sharing : Sharing) (all : Bool) (timed : Option TimedEnd) (why other : Why) (text other_text : Text)
+        → CallTheSame names other_names → SayTheSame why other → IsWhyText names sharing all timed why text
+        → IsWhyText other_names sharing all timed other other_text → text ≡ other_text }
 {}
 
 /// Proves that rows that take the same before and after they change have one short text, in names that call everything the same.

@@ -10,4 +10,4 @@ mod told;
 mod words;
 
 pub use short::{Outcome, short_text};
-pub use told::{put_greedy_line, put_least, why_text};
+pub use told::{TimedEnd, put_greedy_line, put_least, why_text};

@@ -4,7 +4,7 @@ ghost use Rattle.std.specs.Prelude.{◌≡◌, ◌++◌, ◌<◌, All, length, I
 ghost use Rattle.boc_plans.specs.Chains.{weight_of};
 ghost use Rattle.boc_why_report.specs.ChainTexts.{told_chain};
 ghost use Rattle.boc_why_report.specs.WhyTexts.{bound_text, busy_text, from_text, head_text, least_text, load_text, reason_text, tick_text, told_with};
-ghost use Rattle.boc_why_report.specs.WhyTexts.{IsWhyText, greedy_line};
+ghost use Rattle.boc_why_report.specs.WhyTexts.{IsWhyText, greedy_line, timed_end_text, workers_word};
 
 use crate::chain::chain_text;
 use crate::folded::folded_text;
@@ -16,9 +16,18 @@ use boc_text::put_number;
 use boc_why::Why;
 use std::alloc::{AllocError, Global};
 
+/// When a run was over by some workers that take ticks as time.
+#[derive(Clone, Copy, PartialEq, Eq, Debug)]
+pub struct TimedEnd {
+    /// How many workers there are.
+    pub workers: u32,
+    /// The tick at which all was over.
+    pub tick: u64,
+}
+
 // Appends the numbers at the head to a text.
-fn put_head(text: &mut Vec<u8>, why: &Why) -> Result<(), AllocError>
-    ensures { OnOk result (text.new.items ≡ text.old.items ++ head_text why.now) }
+fn put_head(text: &mut Vec<u8>, why: &Why, timed: Option<TimedEnd>) -> Result<(), AllocError>
+    ensures { OnOk result (text.new.items ≡ text.old.items ++ head_text why.now timed) }
 {
     text.extend_from_slice(b"rows ")?;
     put_number(text, why.profile.starts.len() as u64)?;
@@ -26,8 +35,30 @@ fn put_head(text: &mut Vec<u8>, why: &Why) -> Result<(), AllocError>
     put_number(text, why.profile.work)?;
     text.extend_from_slice(b"   span ")?;
     put_number(text, why.profile.span)?;
+    put_timed_end(text, timed)?;
     text.extend_from_slice(b"\n")?;
     Ok(())
+}
+
+// Appends the end of a timed run to a text, where there is one.
+fn put_timed_end(text: &mut Vec<u8>, timed: Option<TimedEnd>) -> Result<(), AllocError>
+    ensures { OnOk result (text.new.items ≡ text.old.items ++ timed_end_text timed) }
+{
+    let Some(end) = timed else {
+        return Ok(());
+    };
+    text.extend_from_slice(b"   end ")?;
+    put_number(text, end.tick)?;
+    text.extend_from_slice(b" on ")?;
+    put_number(text, u64::from(end.workers))?;
+    text.extend_from_slice(workers_word(end.workers).as_bytes())
+}
+
+// Returns the word after a number of workers.
+fn workers_word(workers: u32) -> &'static str
+    ensures { result.now ≡ workers_word workers }
+{
+    if workers == 1 { " worker" } else { " workers" }
 }
 
 // Returns what a cown is busy with.
@@ -136,14 +167,15 @@ fn told_with(
     alloc: Global,
     names: &Names,
     sharing: Sharing,
+    timed: Option<TimedEnd>,
     why: &Why,
     chain: &[u8],
 ) -> Result<Vec<u8>, AllocError>
     requires keys { All (λ s. s.key < length why.now.links.items) why.now.by_link.items }
-    ensures { IfOk result (λ text. text.items ≡ told_with names.now sharing why.now chain.now) }
+    ensures { IfOk result (λ text. text.items ≡ told_with names.now sharing timed why.now chain.now) }
 {
     let mut text = Vec::new(alloc);
-    put_head(&mut text, why)?;
+    put_head(&mut text, why, timed)?;
     text.push(b'\n')?;
     text.extend_from_slice(chain)?;
     text.push(b'\n')?;
@@ -153,8 +185,8 @@ fn told_with(
     Ok(text)
 }
 
-/// Returns what is reported of why some rows take as long as they do: their work and their span; the chain that holds them back, step by step, with what each
-/// row hands on; its ticks by def and by link; what would move the end forward; and a lower bound for any order on the cowns. All times are
+/// Returns what is reported of why some rows take as long as they do: their work, their span, and the end of a timed run, if it is one; the chain that holds
+/// them back, step by step, with what each row hands on; its ticks by def and by link; what would move the end forward; and a lower bound for any order on the cowns. All times are
 /// ticks. Where not all of the chain is requested, four or more steps of one def that follow each other are in one line. Each row of the chain has
 /// to have a start, each step its link, and each share by link the place of one; and the chain's ticks have to add up to the span. `AllocError` says
 /// that memory was refused.
@@ -163,16 +195,17 @@ pub fn why_text(
     names: &Names,
     sharing: Sharing,
     all: bool,
+    timed: Option<TimedEnd>,
     why: &Why,
 ) -> Result<Vec<u8>, AllocError>
     requires there { All (λ s. s.row < length why.now.profile.starts.items) why.now.profile.chain.steps.items }
     requires whole { length why.now.links.items ≡ length why.now.profile.chain.steps.items }
     requires adds_up { weight_of why.now.profile.chain.steps.items ≡ why.now.profile.span }
     requires keys { All (λ s. s.key < length why.now.links.items) why.now.by_link.items }
-    ensures { IfOk result (λ text. IsWhyText names.now sharing all why.now text.items) }
+    ensures { IfOk result (λ text. IsWhyText names.now sharing all timed why.now text.items) }
 {
     let chain = told_chain(alloc, names, all, why)?;
-    told_with(alloc, names, sharing, why, &chain)
+    told_with(alloc, names, sharing, timed, why, &chain)
 }
 
 /// Appends the line of a greedy plan for the given number of workers to a text: the tick at which it ends, and the one by which it has ended. `AllocError` says

@@ -21,7 +21,9 @@ use Rattle.boc_commands.specs.declared.fault.Want.TheVariants as wants
 use Rattle.boc_commands.specs.declared.named_run.NamedRun.{NamedRun}
 use Rattle.boc_commands.specs.Beside.{IsOfRecordFile}
 use Rattle.boc_commands.specs.Faults.{of_stray_beside}
-use Rattle.boc_commands.specs.NamedRuns.{AreRenamed, HasRun, IsNamedRun, IsOfGiven, IsOfNamedRun, IsOfOwn, IsOfRenamed, IsOwnRun, IsRefusedName}
+use Rattle.boc_runs.specs.declared.rows.Row.{Row}
+use Rattle.boc_busy.specs.declared.timed.TimedRows.{TimedRows}
+use Rattle.boc_commands.specs.NamedRuns.{AreRenamed, HasOwnTimes, HasRun, HasTimes, IsNamedRun, IsOfGiven, IsOfNamedRun, IsOfOwn, IsOfRenamed, IsOwnRun, IsRefusedName}
 use Rattle.boc_commands.specs.NamedRuns.{IsRecordNumbered, IsRenamed, IsShort, ReadsNamed, ReadsRun, RefusesNamedRecord, RefusesRenamed}
 use Rattle.boc_words.specs.declared.asked.NamesFrom.{NamesFrom}
 use Rattle.boc_words.specs.declared.asked.NamesFrom.TheVariants as names_from
@@ -68,11 +70,12 @@ of_given_stray text file program recorded stray spells tells told = go stray.kin
 
 -- a run with names that a file laid over its own, or why the file is none of names
 pub renamed_run : (always_on : Type 0) (schedule : Schedule) (text bytes file : List ℕ) (run : NamedRun) (result : Result NamedRun Fault)
-    → HasRun (IsOwnRun schedule text) run → IsShort text
+    → HasRun (IsOwnRun schedule text) run → IsShort text → HasOwnTimes schedule text run.rows run.times
     → file ≡ bytes → MatchResult result (IsRenamed file run) (IsRefusedName file run.names)
-    → MatchResult result (λ after. HasRun (λ recorded names. AreRenamed (λ base. IsOwnRun schedule text recorded base) bytes names) after × IsShort text)
+    → MatchResult result (λ after. HasRun (λ recorded names. AreRenamed (λ base. IsOwnRun schedule text recorded base) bytes names) after × IsShort text
+    × HasOwnTimes schedule text after.rows after.times)
     (IsOfRenamed always_on schedule bytes text)
-renamed_run always_on schedule text bytes file run (Ok after) has short same h =
+renamed_run always_on schedule text bytes file run (Ok after) has short times same h =
     let own : IsRenamed bytes run after = subst (λ f. IsRenamed f run after) same h in (
       record {
         recorded = has.recorded;
@@ -81,8 +84,10 @@ renamed_run always_on schedule text bytes file run (Ok after) has short same h =
         few = own.few;
       },
       short,
+      subst (λ (rows : List Row). HasOwnTimes schedule text rows after.times) (sym own.same)
+          (subst (λ (t : Option TimedRows). HasOwnTimes schedule text run.rows t) (sym own.times_are) times),
     )
-renamed_run always_on schedule text bytes file run (Err fault) has short same h = go fault (subst (λ f. IsRefusedName f run.names fault) same h)
+renamed_run always_on schedule text bytes file run (Err fault) has short times same h = go fault (subst (λ f. IsRefusedName f run.names fault) same h)
   where
     go : (x : Fault) → IsRefusedName bytes run.names x → IsOfRenamed always_on schedule bytes text x
     go (faults.Input (inputs.Beside (files.Names r))) is =
@@ -90,24 +95,34 @@ renamed_run always_on schedule text bytes file run (Err fault) has short same h 
     go (faults.Means wants.Memory) is = elim (begins_or_not text) [ inl begins ↦ inl (begins, tt) | inr none ↦ inr (none, tt) ]
     go _ is = absurd is
 
+-- what a named run says of an input and the file beside it
+abbrev Answers : Type 0 → Schedule → Option RunFile → List ℕ → List ℕ → Result NamedRun Fault → Type 0
+Answers always_on schedule asked bytes text result =
+    MatchResult result
+    (λ run. HasRun (IsNamedRun schedule asked bytes text) run × IsShort text × HasTimes schedule asked text run.rows run.times)
+    (IsOfNamedRun always_on schedule asked bytes text)
+
 -- the same, of a file that is told to be one of names
 pub renamed_as : (always_on : Type 0) (schedule : Schedule) (text bytes file : List ℕ) (run : NamedRun) (result : Result NamedRun Fault)
     (asked : Option RunFile)
     (named : RunFile) (path : String Global) → asked ≡ Some named → named ≡ run_files.Names path → HasRun (IsOwnRun schedule text) run → IsShort text
+    → HasOwnTimes schedule text run.rows run.times
     → file ≡ bytes → MatchResult result (IsRenamed file run) (IsRefusedName file run.names)
-    → MatchResult result (λ after. HasRun (IsNamedRun schedule asked bytes text) after × IsShort text) (IsOfNamedRun always_on schedule asked bytes text)
-renamed_as always_on schedule text bytes file run result asked named path is_asked is_named has short same h =
-    subst (λ (o : Option RunFile). MatchResult result (λ after. HasRun (IsNamedRun schedule o bytes text) after × IsShort text)
-    (IsOfNamedRun always_on schedule o bytes text))
-    (sym (is_asked ∙ ap Some is_named)) (renamed_run always_on schedule text bytes file run result has short same h)
+    → MatchResult result
+    (λ after. HasRun (IsNamedRun schedule asked bytes text) after × IsShort text × HasTimes schedule asked text after.rows after.times)
+    (IsOfNamedRun always_on schedule asked bytes text)
+renamed_as always_on schedule text bytes file run result asked named path is_asked is_named has short times same h =
+    subst (λ (o : Option RunFile). Answers always_on schedule o bytes text result) (sym (is_asked ∙ ap Some is_named))
+    (renamed_run always_on schedule text bytes file run result has short times same h)
 
 -- a run with no file beside it
 pub own_as : (always_on : Type 0) (schedule : Schedule) (text bytes : List ℕ) (result : Result NamedRun Fault) (asked : Option RunFile) → asked ≡ None
-    → MatchResult result (λ run. HasRun (IsOwnRun schedule text) run × IsShort text) (IsOfOwn always_on schedule text)
-    → MatchResult result (λ run. HasRun (IsNamedRun schedule asked bytes text) run × IsShort text) (IsOfNamedRun always_on schedule asked bytes text)
-own_as always_on schedule text bytes result asked is h =
-    subst (λ (o : Option RunFile). MatchResult result (λ run. HasRun (IsNamedRun schedule o bytes text) run × IsShort text)
-    (IsOfNamedRun always_on schedule o bytes text)) (sym is) h
+    → MatchResult result (λ run. HasRun (IsOwnRun schedule text) run × IsShort text × HasOwnTimes schedule text run.rows run.times)
+    (IsOfOwn always_on schedule text)
+    → MatchResult result
+    (λ run. HasRun (IsNamedRun schedule asked bytes text) run × IsShort text × HasTimes schedule asked text run.rows run.times)
+    (IsOfNamedRun always_on schedule asked bytes text)
+own_as always_on schedule text bytes result asked is h = subst (λ (o : Option RunFile). Answers always_on schedule o bytes text result) (sym is) h
 
 -- ---- a record with names
 

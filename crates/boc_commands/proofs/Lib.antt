@@ -6,6 +6,7 @@ pub mod WhatIfParts
 pub mod WhatIfNamed
 pub mod Promised
 pub mod Passed
+pub mod Timing
 pub mod Noting
 pub mod Seeding
 pub mod Drawing
@@ -15,6 +16,7 @@ pub mod SameNames
 pub mod OneAnswer
 pub mod NoProgram
 pub mod OneNaming
+pub mod OneTimes
 pub mod OneTold
 pub mod OneChange
 pub mod BesideFiles

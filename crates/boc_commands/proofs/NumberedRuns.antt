@@ -84,7 +84,7 @@ numbering alloc rows cowns few few_cowns =
 pub record NumberedRun (rows : List Row) (cowns : ℕ) (before after : Option (List ℕ)) : Type 0 where
   pub names : Names
   pub are : AreNumbers (length rows) cowns names
-  pub reads : (bytes : List ℕ) → ReadsNamed None bytes (Ok (record { rows = rows; names = names })) before after
+  pub reads : (bytes : List ℕ) → ReadsNamed None bytes (Ok (record { rows = rows; names = names; times = None })) before after
 
 pub numbered_run : (alloc : Global) (rows : List Row) (cowns : ℕ) (before after : Option (List ℕ)) → IsRows rows → cowns ≤ MOST_COWNS
     → ReadsCounted (Ok (rows, cowns)) before after → NumberedRun rows cowns before after

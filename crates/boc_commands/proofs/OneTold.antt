@@ -1,5 +1,6 @@
 -- Of one run there is one answer of `why` and one of `cowns`, with one text of notes.
-use Rattle.std.proofs.Common.{◌≡◌, ◌∙◌, ℕ, Bool, true, false, List, ◌++◌, length, Option, Some, None, subst, sym}
+use Rattle.std.proofs.Common.{◌≡◌, ◌∙◌, ℕ, Bool, true, false, List, ◌++◌, length, Option, Some, None, ap, subst, sym}
+use Rattle.std.specs.Prelude.{option_map}
 use Rattle.boc_runs.specs.declared.rows.Row.{Row}
 use Rattle.boc_runs.specs.Records.{IsRecord, Recorded}
 use Rattle.boc_runs.specs.Rows.{IsRows}
@@ -14,7 +15,9 @@ use Rattle.boc_names.specs.declared.names.Names.{Names}
 use Rattle.boc_names.specs.Names.{CallTheSame, texts_of}
 use Rattle.boc_why.specs.Why.{IsWhy, SayTheSame}
 use Rattle.boc_why.proofs.OneWhy.{one_why}
-use Rattle.boc_why_report.specs.WhyTexts.{greedy_line}
+use Rattle.boc_why_report.specs.declared.told.TimedEnd.{TimedEnd}
+use Rattle.boc_why_report.specs.ChainTexts.{told_chain}
+use Rattle.boc_why_report.specs.WhyTexts.{greedy_line, told_with}
 use Rattle.boc_why_report.proofs.OneText.{one_text as one_why_text}
 use Rattle.boc_cowns.specs.Hot.{IsHotCowns}
 use Rattle.boc_cowns.proofs.One.{cowns_same, least_same, shared_same, span_same}
@@ -23,9 +26,12 @@ use Rattle.boc_words.specs.declared.asked.AskedCowns.{AskedCowns}
 use Rattle.boc_words.specs.declared.asked.AskedWhy.{AskedWhy}
 use Rattle.boc_words.specs.declared.asked.RunFile.{RunFile}
 use Rattle.boc_commands.specs.CownsAnswers.{AreTold}
-use Rattle.boc_commands.specs.NamedRuns.{IsNamedRun}
+use Rattle.boc_commands.specs.NamedRuns.{HasTimes, IsNamedRun}
 use Rattle.boc_commands.specs.Notes.{AreWanted, TellsCowns, TellsWhy, notes_of_rows}
+use Rattle.boc_busy.specs.declared.timed.TimedRows.{TimedRows}
+use Rattle.boc_commands.specs.TimedAnswers.{end_of_times}
 use Rattle.boc_commands.specs.WhyAnswers.{IsAskedLine, IsGreedyLine, IsTold}
+use Rattle.boc_commands.proofs.OneTimes.{one_ends}
 use Rattle.boc_commands.proofs.OneNaming.{one_named_run, run_is_record}
 
 -- the rows of a record
@@ -47,16 +53,18 @@ one_asked_line : (rows : List Row) → IsRows rows → (workers : Option ℕ) (l
 one_asked_line rows hr None line other a b = a ∙ sym b
 one_asked_line rows hr (Some p) line other a b = one_greedy_line rows hr p line other a b
 
-one_told : (rows : List Row) → IsRows rows → (names others : Names) → CallTheSame names others → (asked : AskedWhy)
-    (text other : List ℕ) → IsTold rows names asked text → IsTold rows others asked other → text ≡ other
-one_told rows hr names others same asked text other a b =
+one_told : (rows : List Row) → IsRows rows → (names others : Names) → CallTheSame names others → (asked : AskedWhy) (times at : Option TimedRows)
+    → option_map end_of_times times ≡ option_map end_of_times at → (text other : List ℕ) → IsTold rows names asked times text
+    → IsTold rows others asked at other → text ≡ other
+one_told rows hr names others same asked times at ends text other a b =
     let why : IsWhy rows asked.sharing others.defs.items others.families.items (length others.families.items) a.why =
     subst (λ (families : List ℕ). IsWhy rows asked.sharing others.defs.items families (length families) a.why) same.families
     (subst (λ (defs : List ℕ). IsWhy rows asked.sharing defs names.families.items (length names.families.items) a.why) same.defs a.is_why) in
     let alike : SayTheSame a.why b.why =
     one_why rows asked.sharing others.defs.items others.families.items (length others.families.items) a.why b.why why b.is_why in
     let before : a.without_line ≡ b.without_line =
-    a.told.is ∙ one_why_text names others same asked.sharing a.why b.why alike asked.all ∙ sym b.told.is in
+    a.told.is ∙ one_why_text names others same asked.sharing a.why b.why alike asked.all (option_map end_of_times times)
+    ∙ ap (λ (end : Option TimedEnd). told_with others asked.sharing end b.why (told_chain others asked.all b.why)) ends ∙ sym b.told.is in
     let line : a.put.line ≡ b.put.line =
     one_asked_line (seen asked.sharing rows) (rows_seen asked.sharing rows hr) asked.workers a.put.line b.put.line a.put.line_is b.put.line_is in
     let put : a.without_line ++ a.put.line ≡ b.without_line ++ b.put.line = λ i. before i ++ line i in
@@ -101,7 +109,9 @@ one_why_answer asked file bytes input notes output others other one another same
           (subst (λ (r : Recorded). AreWanted asked.quiet (λ told. told ≡ notes_of_rows (texts_of a.names.rows.items) r.rows) notes) same one.noted)
           another.noted,
       one_told b.recorded.rows (rows_are b.recorded (run_is_record asked.schedule file bytes input b.recorded b.names b.named)) a.names b.names called asked
-          output other (subst (λ (r : Recorded). IsTold r.rows a.names asked output) same a.told) b.told,
+          a.times b.times (one_ends asked.schedule file input b.recorded.rows a.times b.times
+          (subst (λ (r : Recorded). HasTimes asked.schedule file input r.rows a.times) same a.times_are) b.times_are)
+          output other (subst (λ (r : Recorded). IsTold r.rows a.names asked a.times output) same a.told) b.told,
     )
 
 pub one_cowns_answer : (asked : AskedCowns) (file : Option RunFile) (bytes input notes output others other : List ℕ)

@@ -8,18 +8,16 @@ use Rattle.boc_commands.specs.declared.fault.Fault.TheVariants as faults
 use Rattle.boc_commands.specs.declared.fault.InputFault.TheVariants as inputs
 use Rattle.boc_commands.specs.declared.fault.Want.{Want}
 use Rattle.boc_commands.specs.declared.fault.Want.TheVariants as means
-use Rattle.boc_commands.specs.Faults.{of_read, of_run}
+use Rattle.boc_commands.specs.Faults.{of_read}
 use Rattle.boc_program.specs.declared.program.Program.{Program}
 use Rattle.boc_reader.specs.Spells.{Spells}
-use Rattle.boc_workers.specs.declared.fault.RunFault.{RunFault}
 use Rattle.boc_workers.specs.declared.fault.RunFault.TheVariants as runs
 use Rattle.boc_words.specs.declared.schedule.Schedule.{Schedule}
 use Rattle.boc_reader.specs.FaultMeanings.{IsRefusalOf}
 use Rattle.boc_reader.specs.declared.fault.ReadFault.{ReadFault}
 use Rattle.boc_reader.specs.declared.fault.ReadFaultKind.{ReadFaultKind}
 use Rattle.boc_reader.specs.declared.fault.ReadFaultKind.TheVariants as kinds
-use Rattle.boc_commands.specs.Commands.{IsOfRun, IsWrongWith, RefusesNothing, RefusesRun}
-use Rattle.boc_commands.specs.Schedules.{Fails}
+use Rattle.boc_commands.specs.Commands.{IsOfCourse, IsOfRun, IsWrongWith, RefusesNothing, RefusesRun}
 
 -- where a result is a fault, what holds of that fault holds of it
 pub passed_on : {A : Type 0} (Is : A → Type 0) (IsWrong : Fault → Type 0) (result : Result A Fault) (fault : Fault)
@@ -55,8 +53,11 @@ refuses_nothing Holds ok want (Ok done) h = ok
 refuses_nothing Holds ok want (Err (faults.Means w)) h = want w
 refuses_nothing Holds ok want (Err _) h = absurd h
 
--- what a run of the program that a text spells fails by
-pub refused_course : (always_on : Type 0) (schedule : Schedule) (text : List ℕ) (program : Program) (fault : RunFault) → Spells text program
-    → Fails always_on program schedule fault → IsOfRun always_on schedule text (of_run fault)
-refused_course always_on schedule text program runs.Memory spells failed = tt
-refused_course always_on schedule text program _ spells failed = record { program = program; spells = spells; fails = failed }
+-- a fault of a run of the program that a text spells is one of the text
+pub refused_course : (always_on : Type 0) (schedule : Schedule) (text : List ℕ) (program : Program) (fault : Fault) → Spells text program
+    → IsOfCourse always_on program schedule fault → IsOfRun always_on schedule text fault
+refused_course always_on schedule text program (faults.Run runs.Memory) spells is = absurd is
+refused_course always_on schedule text program (faults.Run _) spells is = record { program = program; spells = spells; fails = is }
+refused_course always_on schedule text program faults.Unscheduled spells is = record { program = program; spells = spells; unscheduled = is }
+refused_course always_on schedule text program (faults.Means means.Memory) spells is = tt
+refused_course always_on schedule text program _ spells is = absurd is

@@ -38,6 +38,7 @@ refused_before file bytes cowns edits (Err f) fault before h is =
     go None (faults.Input (inputs.Beside r)) is = is
     go None (faults.Words w) is = is
     go None (faults.Run r) is = is
+    go None faults.Unscheduled is = is
     go None (faults.Means w) is = is
     go (Some (names_from.Program path)) (faults.Input (inputs.Cown n)) is = absurd is
     go (Some (names_from.Program path)) (faults.Input (inputs.Edit n f)) is = absurd is
@@ -51,6 +52,7 @@ refused_before file bytes cowns edits (Err f) fault before h is =
     go (Some (names_from.Program path)) (faults.Input (inputs.Beside (files.Names r))) is = is
     go (Some (names_from.Program path)) (faults.Words w) is = is
     go (Some (names_from.Program path)) (faults.Run r) is = is
+    go (Some (names_from.Program path)) faults.Unscheduled is = is
     go (Some (names_from.Program path)) (faults.Means w) is = is
     go (Some (names_from.Names path)) (faults.Input (inputs.Cown n)) is = absurd is
     go (Some (names_from.Names path)) (faults.Input (inputs.Edit n f)) is = absurd is
@@ -64,6 +66,7 @@ refused_before file bytes cowns edits (Err f) fault before h is =
     go (Some (names_from.Names path)) (faults.Input (inputs.Beside (files.Names r))) is = is
     go (Some (names_from.Names path)) (faults.Words w) is = is
     go (Some (names_from.Names path)) (faults.Run r) is = is
+    go (Some (names_from.Names path)) faults.Unscheduled is = is
     go (Some (names_from.Names path)) (faults.Means w) is = is
 
 -- want of memory and of a device are never a refusal
@@ -106,6 +109,7 @@ refused_asked file bytes cowns edits run (Err fault) before after read h = go fa
     go (faults.Input (inputs.Beside r)) is = absurd (neither (λ no. no) (λ after. after.unfit) is)
     go (faults.Words w) is = absurd (neither (λ no. no) (λ after. after.unfit) is)
     go (faults.Run r) is = absurd (neither (λ no. no) (λ after. after.unfit) is)
+    go faults.Unscheduled is = absurd (neither (λ no. no) (λ after. after.unfit) is)
 
 -- what goes out of it answers the input
 pub written_named : (file : Option NamesFrom) (bytes : List ℕ) (cowns : List AskedCown) (edits : List AskedEdit) (sharing : Sharing) (plans : AskedPlans)

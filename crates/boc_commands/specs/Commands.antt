@@ -21,7 +21,9 @@ use Rattle.boc_record.specs.RecordTexts.{IsFirstFault}
 use Rattle.boc_runs.specs.OwnOrder.{HasTooMany}
 use Rattle.boc_text.specs.Streams.{StopsAt, ReadsWhole}
 use Rattle.boc_words.specs.declared.schedule.Schedule.{Schedule}
-use Rattle.boc_commands.specs.Schedules.{FailsText}
+use Rattle.boc_timed.specs.declared.fault.TimedFault.TheVariants as timed_faults
+use Rattle.boc_timed.specs.Timed.{IsTimed}
+use Rattle.boc_commands.specs.Schedules.{Fails, FailsText, HasNoSchedule, IsUnscheduled, IsUnscheduledText}
 
 -- ---- what goes out
 
@@ -105,12 +107,28 @@ RefusesProgram (Err fault) before after = IsWant fault
 abbrev pub IsProgram : List ℕ → Type 0
 IsProgram text = (program : Program) × Spells text program
 
+-- a fault of a run of a program by this schedule: what it fails by, or that when its rows ran is no schedule; want of memory is none of the run
+abbrev pub IsOfCourse : Type 0 → Program → Schedule → Fault → Type 0
+IsOfCourse always_on program schedule (faults.Run runs.Memory) = ⊥
+IsOfCourse always_on program schedule (faults.Run r) = Fails always_on program schedule r
+IsOfCourse always_on program schedule faults.Unscheduled = IsUnscheduled program schedule
+IsOfCourse always_on program schedule (faults.Means wants.Memory) = Unit {0}
+IsOfCourse always_on program schedule _ = ⊥
+
+-- the same of the timed run by so many workers
+abbrev pub IsOfTimed : Program → ℕ → Fault → Type 0
+IsOfTimed program workers (faults.Run runs.Behaviours) = IsTimed program workers (Err timed_faults.Behaviours)
+IsOfTimed program workers faults.Unscheduled = HasNoSchedule program workers
+IsOfTimed program workers (faults.Means wants.Memory) = Unit {0}
+IsOfTimed program workers _ = ⊥
+
 -- a fault of a run by this schedule: what is wrong with the program text and where, or what the run of its program fails by; want of memory is none of the
 -- run
 abbrev pub IsOfRun : Type 0 → Schedule → List ℕ → Fault → Type 0
 IsOfRun always_on schedule text (faults.Input (inputs.Program r)) = IsWrongWith text r
 IsOfRun always_on schedule text (faults.Run runs.Memory) = ⊥
 IsOfRun always_on schedule text (faults.Run r) = FailsText always_on schedule text r
+IsOfRun always_on schedule text faults.Unscheduled = IsUnscheduledText text schedule
 IsOfRun always_on schedule text (faults.Means wants.Memory) = Unit {0}
 IsOfRun always_on schedule text _ = ⊥
 

@@ -14,6 +14,8 @@ use Rattle.boc_text.specs.declared.whole.TextFault.{TextFault}
 use Rattle.boc_text.specs.declared.whole.TextFault.TheVariants as texts
 use Rattle.boc_draws.specs.declared.fault.DrawFault.{DrawFault}
 use Rattle.boc_draws.specs.declared.fault.DrawFault.TheVariants as draws
+use Rattle.boc_timed.specs.declared.fault.TimedFault.{TimedFault}
+use Rattle.boc_timed.specs.declared.fault.TimedFault.TheVariants as timed
 use Rattle.boc_eval.specs.declared.serial.SerialFault.{SerialFault}
 use Rattle.boc_eval.specs.declared.serial.SerialFault.TheVariants as serial
 use Rattle.boc_record.specs.declared.fault.RecordFault.{RecordFault}
@@ -41,6 +43,7 @@ abbrev pub status_of : Fault → ℕ
 status_of (faults.Words w) = 2
 status_of (faults.Input i) = 3
 status_of (faults.Run r) = 4
+status_of faults.Unscheduled = 4
 status_of (faults.Means w) = 5
 
 -- the fault is want of memory or of a device
@@ -109,6 +112,11 @@ of_serial serial.Behaviours = faults.Run runs.Behaviours
 abbrev pub of_draw : DrawFault → Fault
 of_draw draws.Memory = faults.Means wants.Memory
 of_draw draws.Behaviours = faults.Run runs.Behaviours
+
+-- the fault of a timed run
+abbrev pub of_timed : TimedFault → Fault
+of_timed timed.Memory = faults.Means wants.Memory
+of_timed timed.Behaviours = faults.Run runs.Behaviours
 
 -- want of memory is no fault of a run by threads
 abbrev pub of_run : RunFault → Fault
@@ -179,6 +187,7 @@ abbrev pub fault_line : Fault → Option (List ℕ)
 fault_line (faults.Words w) = words_line w
 fault_line (faults.Input i) = Some (input_line i)
 fault_line (faults.Run r) = Some (codes "boc: run: " ++ run_line r)
+fault_line faults.Unscheduled = Some (codes "boc: run: 7 Unscheduled")
 fault_line (faults.Means w) = Some (want_line w)
 
 -- a text is the line, where there is one

@@ -5,6 +5,7 @@ pub mod Faults
 pub mod Promises
 pub mod Commands
 pub mod NamedRuns
+pub mod TimedAnswers
 pub mod WhyAnswers
 pub mod CownsAnswers
 pub mod OutcomesAnswers

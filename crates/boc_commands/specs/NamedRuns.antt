@@ -35,7 +35,8 @@ use Rattle.boc_commands.specs.Beside.{RefusesAgainst, StrayTexts}
 use Rattle.boc_commands.specs.Commands.{IsOfRun, IsProgram, IsRecordRefusal, IsWrongWith, RefusesRecord}
 use Rattle.boc_commands.specs.Faults.{IsWant}
 use Rattle.boc_commands.specs.Promises.{IsRunOf}
-use Rattle.boc_commands.specs.Schedules.{IsScheduledText}
+use Rattle.boc_busy.specs.declared.timed.TimedRows.{TimedRows}
+use Rattle.boc_commands.specs.Schedules.{AreTimesText, IsScheduledText}
 
 -- ---- what is taken of an input
 
@@ -120,9 +121,21 @@ pub record AreFew (rows : List Row) (names : Names) : Type 0 where
   pub few_cowns : length names.families.items ≤ MOST_COWNS
   pub few_families : All (λ f. f < MOST_COWNS) names.families.items
 
+-- when the rows of the run of an input ran: of a program, by this schedule as it is run; and of a record nothing is known
+abbrev pub HasOwnTimes : Schedule → List ℕ → List Row → Option TimedRows → Type 0
+HasOwnTimes schedule text rows times =
+    (BeginsRecord text × (times ≡ None)) ⊎ ((BeginsRecord text → ⊥) × AreTimesText text schedule rows times)
+
+-- the same of an input with a file beside it, where nothing is known if that is the record of the run
+abbrev pub HasTimes : Schedule → Option RunFile → List ℕ → List Row → Option TimedRows → Type 0
+HasTimes schedule None text rows times = HasOwnTimes schedule text rows times
+HasTimes schedule (Some (run_files.Record path)) text rows times = times ≡ None
+HasTimes schedule (Some (run_files.Names path)) text rows times = HasOwnTimes schedule text rows times
+
 -- the same rows, with the names that a file gives them and their cowns laid over those that they have
 pub record IsRenamed (file : List ℕ) (run after : NamedRun) : Type 0 where
   pub same : after.rows ≡ run.rows
+  pub times_are : after.times ≡ run.times
   pub renamed : IsNamedBy file run.names after.names
   pub few : AreFew after.rows after.names
 

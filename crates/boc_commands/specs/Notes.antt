@@ -1,6 +1,7 @@
 -- What is noted of behaviours that ended by a fault, beside what a command answers.
-use Rattle.std.specs.Prelude.{◌≡◌, ℕ, ℤ, Bool, true, false, List, [], ◌∷◌, map, Option, codes}
+use Rattle.std.specs.Prelude.{◌≡◌, ℕ, ℤ, Bool, true, false, List, [], ◌∷◌, ◌++◌, map, Option, codes}
 use Rattle.boc_program.specs.declared.program.Program.{Program}
+use Rattle.boc_busy.specs.declared.timed.TimedRows.{TimedRows}
 use Rattle.boc_eval.specs.Faulted.{EndsAs, FaultedRow}
 use Rattle.boc_reader.specs.Listed.{ListsDefs}
 use Rattle.boc_reader.specs.Spells.{Spells}
@@ -20,7 +21,8 @@ use Rattle.boc_commands.specs.Answers.{IsProfileAnswer, IsValuesAnswer}
 use Rattle.boc_commands.specs.Beside.{IsValuesAfterAnswer}
 use Rattle.boc_commands.specs.CownsAnswers.{IsCownsAnswer}
 use Rattle.boc_commands.specs.Promises.{IsRunAnswer, IsTimeAnswer}
-use Rattle.boc_commands.specs.Schedules.{IsScheduledText}
+use Rattle.boc_commands.specs.Schedules.{AreTimesText, IsScheduledText}
+use Rattle.boc_commands.specs.TimedAnswers.{times_text}
 use Rattle.boc_words.specs.declared.schedule.Schedule.{Schedule}
 use Rattle.boc_commands.specs.WhyAnswers.{IsWhyAnswer}
 
@@ -76,9 +78,13 @@ pub record TellsRun (schedule : Schedule) (quiet : Bool) (notes input output : T
   pub scheduled : IsScheduledText input schedule answer.recorded
   pub noted : AreWanted quiet (AreRunNotes input answer.recorded) notes
 
--- the report on such a run, and the same notes on it
+-- the report on such a run, and behind it when its rows ran, where ticks are time, which is a schedule that ends in time; and the same notes on it
 pub record TellsTime (schedule : Schedule) (sharing : Sharing) (asked : AskedPlans) (quiet : Bool) (notes input output : Text) : Type 0 where
-  pub answer : IsTimeAnswer sharing asked input output
+  pub report : Text
+  pub answer : IsTimeAnswer sharing asked input report
+  pub times : Option TimedRows
+  pub times_are : AreTimesText input schedule answer.recorded.rows times
+  pub text : output ≡ report ++ times_text asked.unplanned times
   pub scheduled : IsScheduledText input schedule answer.recorded
   pub noted : AreWanted quiet (AreRunNotes input answer.recorded) notes
 

@@ -1,5 +1,6 @@
 -- What the command `why` answers.
-use Rattle.std.specs.Prelude.{◌≡◌, ℕ, List, [], ◌++◌, length, Option, Some, None}
+use Rattle.std.specs.Prelude.{◌≡◌, ℕ, List, [], ◌++◌, length, Option, Some, None, option_map}
+use Rattle.boc_busy.specs.declared.timed.TimedRows.{TimedRows}
 use Rattle.boc_runs.specs.declared.rows.Row.{Row}
 use Rattle.boc_runs.specs.Records.{Recorded}
 use Rattle.boc_plans.specs.Greedy.{IsBound, IsGreedy}
@@ -11,7 +12,8 @@ use Rattle.boc_why.specs.Why.{IsWhy}
 use Rattle.boc_why_report.specs.WhyTexts.{IsWhyText, greedy_line}
 use Rattle.boc_words.specs.declared.asked.AskedWhy.{AskedWhy}
 use Rattle.boc_words.specs.declared.asked.RunFile.{RunFile}
-use Rattle.boc_commands.specs.NamedRuns.{IsNamedRun}
+use Rattle.boc_commands.specs.NamedRuns.{HasTimes, IsNamedRun}
+use Rattle.boc_commands.specs.TimedAnswers.{end_of_times}
 
 -- the line of the greedy plan for so many workers: its end, and its bound
 pub record IsGreedyLine (rows : List Row) (p : ℕ) (line : List ℕ) : Type 0 where
@@ -35,19 +37,21 @@ pub record PutsLine (rows : List Row) (workers : Option ℕ) (before after : Lis
   pub line_is : IsAskedLine rows workers line
   pub put : after ≡ before ++ line
 
--- A text tells why these rows take as long as they do, in these names, as they share cowns in the way that was asked for, and when the greedy plan for so
--- many workers ends, where that was asked for.
-pub record IsTold (rows : List Row) (names : Names) (asked : AskedWhy) (text : List ℕ) : Type 0 where
+-- A text tells why these rows take as long as they do, in these names, as they share cowns in the way that was asked for; when their run was over, where it is
+-- known when they ran; and when the greedy plan for so many workers ends, where that was asked for.
+pub record IsTold (rows : List Row) (names : Names) (asked : AskedWhy) (times : Option TimedRows) (text : List ℕ) : Type 0 where
   pub why : Why
   pub is_why : IsWhy rows asked.sharing names.defs.items names.families.items (length names.families.items) why
   pub without_line : List ℕ
-  pub told : IsWhyText names asked.sharing asked.all why without_line
+  pub told : IsWhyText names asked.sharing asked.all (option_map end_of_times times) why without_line
   pub put : PutsLine (seen asked.sharing rows) asked.workers without_line text
 
 -- The rows are those of the run that the input tells of, by the schedule that was asked for or with the file beside it, and the output tells why they take as
--- long as they do.
+-- long as they do. Where ticks are time for a program that was run, it is known when its rows ran, which is a schedule that ends in time.
 pub record IsWhyAnswer (asked : AskedWhy) (file : Option RunFile) (bytes input output : List ℕ) : Type 0 where
   pub recorded : Recorded
   pub names : Names
   pub named : IsNamedRun asked.schedule file bytes input recorded names
-  pub told : IsTold recorded.rows names asked output
+  pub times : Option TimedRows
+  pub times_are : HasTimes asked.schedule file input recorded.rows times
+  pub told : IsTold recorded.rows names asked times output

@@ -15,6 +15,7 @@ use boc_plans::edit::EditFault;
 use boc_reader::{ReadFault, ReadFaultKind};
 use boc_record::{RecordFault, RecordFaultKind, WriteFault};
 use boc_text::{Stopped, TextFault};
+use boc_timed::TimedFault;
 use boc_words::WordsFault;
 use boc_workers::RunFault;
 use itoa::Buffer;
@@ -39,6 +40,8 @@ pub enum Fault {
     Input(InputFault),
     /// The run was given up; where memory was refused, that is reported as such.
     Run(RunFault),
+    /// When the rows of a timed run ran is no schedule of its workers that ends in time. That is a fault of the program's own.
+    Unscheduled,
     /// Memory was refused, or a device failed.
     Means(Want),
 }
@@ -97,7 +100,7 @@ impl Fault {
         match self {
             Fault::Words(_) => 2,
             Fault::Input(_) => 3,
-            Fault::Run(_) => 4,
+            Fault::Run(_) | Fault::Unscheduled => 4,
             Fault::Means(_) => 5,
         }
     }
@@ -127,6 +130,7 @@ impl Fault {
             Fault::Words(WordsFault::Memory) => Some(want_text(Want::Memory)),
             Fault::Input(fault) => Some(input_text(fault)),
             Fault::Run(fault) => Some(joined("boc: run: ", run_text(*fault))),
+            Fault::Unscheduled => Some(joined("boc: run: ", "7 Unscheduled")),
             Fault::Means(want) => Some(want_text(*want)),
         }
     }
@@ -332,6 +336,19 @@ impl From<DrawFault> for Fault {
         match fault {
             DrawFault::Memory => Fault::Means(Want::Memory),
             DrawFault::Behaviours => Fault::Run(RunFault::Behaviours),
+        }
+    }
+}
+
+impl From<TimedFault> for Fault {
+    ghost use Rattle.boc_commands.specs.Faults.{of_timed};
+
+    ghost from_gives = { λ t f. f ≡ of_timed t };
+
+    fn from(fault: TimedFault) -> Fault {
+        match fault {
+            TimedFault::Memory => Fault::Means(Want::Memory),
+            TimedFault::Behaviours => Fault::Run(RunFault::Behaviours),
         }
     }
 }

@@ -13,8 +13,9 @@ ghost use Rattle.boc_commands.specs.Faults.{gone_of};
 ghost use Rattle.boc_commands.specs.Commands.{CountsSource, IsOfRun, RefusesRecord};
 ghost use Rattle.boc_commands.specs.NamedRuns.{HasRun, IsCounted, IsNamedRun, IsOfGiven, IsOfNamedRun, IsOfOwn, IsOfRecord, IsOfRenamed, IsOwnRun};
 ghost use Rattle.boc_commands.specs.NamedRuns.{AreFew, IsRecordNumbered, IsRefusedName, IsRenamed, IsRunGiven, IsScheduledRun, IsShort, IsTaken};
-ghost use Rattle.boc_commands.specs.NamedRuns.{ReadsNamed, ReadsRun, RefusesNamedRecord};
+ghost use Rattle.boc_commands.specs.NamedRuns.{HasOwnTimes, HasTimes, ReadsNamed, ReadsRun, RefusesNamedRecord};
 ghost use Rattle.boc_commands.specs.NamedRuns.{of_names_file, of_record_in_memory};
+ghost use Rattle.boc_commands.specs.Schedules.{AreTimesText};
 ghost use Rattle.boc_follow.specs.Strays.{Tells};
 ghost use Rattle.boc_text.specs.Streams.{CountsDevice};
 
@@ -22,6 +23,7 @@ use crate::beside::{of_read_beside, of_stray_beside, record_beside};
 use crate::fault::{Fault, FileFault, InputFault, Want};
 use crate::run::{MadeRun, made_run};
 use crate::values::MOST_TAKEN;
+use boc_busy::TimedRows;
 use boc_dispatch::{Tell, rows_in_order};
 use boc_follow::{StrayFault, StrayFaultKind, follow_record};
 use boc_names::{Names, NamesFault, NamesFaultKind, names_of_run, numbers_as_names, read_names};
@@ -43,11 +45,12 @@ use std::thread::Threads;
 // The word that the text of a record begins with. No program does.
 const RECORD_WORD: &[u8] = b"boc";
 
-/// The rows of a run, and what they and their cowns are called.
+/// The rows of a run, what they and their cowns are called, and when they ran, where ticks are time.
 #[derive(Drop)]
 pub struct NamedRun {
     pub rows: Rows,
     pub names: Names,
+    pub times: Option<TimedRows>,
 }
 
 /// Where a run comes from, next to the input.
@@ -87,7 +90,8 @@ pub fn named_run<R: Threads + Wait + Sync, G: Gate>(
     progress: &mut dyn Progress,
 ) -> Result<NamedRun, Fault>
     ensures { MatchResult result
-        (λ run. HasRun (IsNamedRun origin.entry.schedule origin.entry.file.now origin.entry.bytes.items text.items) run × IsShort text.items)
+        (λ run. HasRun (IsNamedRun origin.entry.schedule origin.entry.file.now origin.entry.bytes.items text.items) run × IsShort text.items
+        × HasTimes origin.entry.schedule origin.entry.file.now text.items run.rows run.times)
         (IsOfNamedRun G.always_on origin.entry.schedule origin.entry.file.now origin.entry.bytes.items text.items) }
 {
     let Origin {
@@ -116,7 +120,9 @@ fn own_run<R: Threads + Wait + Sync, G: Gate>(
     gate: &G,
     progress: &mut dyn Progress,
 ) -> Result<NamedRun, Fault>
-    ensures { MatchResult result (λ run. HasRun (IsOwnRun schedule text.items) run × IsShort text.items) (IsOfOwn G.always_on schedule text.items) }
+    ensures { MatchResult result
+        (λ run. HasRun (IsOwnRun schedule text.items) run × IsShort text.items × HasOwnTimes schedule text.items run.rows run.times)
+        (IsOfOwn G.always_on schedule text.items) }
 {
     if text.starts_with(RECORD_WORD) {
         record_run(alloc, text)
@@ -127,11 +133,15 @@ fn own_run<R: Threads + Wait + Sync, G: Gate>(
 
 // The run that the text of a record is of, whose rows and cowns are called by their numbers.
 fn record_run(alloc: Global, text: Vec<u8>) -> Result<NamedRun, Fault>
-    ensures { MatchResult result (HasRun (IsRecordNumbered text.items)) (IsOfRecord text.items) }
+    ensures { MatchResult result (λ run. HasRun (IsRecordNumbered text.items) run × (run.times ≡ None)) (IsOfRecord text.items) }
 {
     let (rows, cowns) = counted(alloc, text)?;
     let names = numbers_as_names(alloc, rows.as_slice().len() as u32, cowns)?;
-    Ok(NamedRun { rows, names })
+    Ok(NamedRun {
+        rows,
+        names,
+        times: None,
+    })
 }
 
 // The rows and the number of cowns of the record whose text this is.
@@ -164,17 +174,18 @@ fn program_run<R: Threads + Wait + Sync, G: Gate>(
     progress: &mut dyn Progress,
 ) -> Result<NamedRun, Fault>
     ensures { MatchResult result
-        (λ named. HasRun (IsScheduledRun schedule text.now) named × (length text.now ≤ MOST_TEXT))
+        (λ named. HasRun (IsScheduledRun schedule text.now) named × (length text.now ≤ MOST_TEXT) × AreTimesText text.now schedule named.rows named.times)
         (IsOfRun G.always_on schedule text.now) }
 {
     let (program, defs) = read_listed(alloc, text)?;
     let run = made_run(rt, alloc, &program, schedule, Tell::All, gate, progress)?;
     let defs = called(alloc, defs)?;
     let names = told_names(alloc, &program, &defs, &run, progress)?;
-    let rows = run.record.into_rows();
+    let MadeRun { record, times, .. } = run;
+    let rows = record.into_rows();
     // For the proof alone, and free: that they have the shape of rows.
     let _shape = rows.as_slice();
-    Ok(NamedRun { rows, names })
+    Ok(NamedRun { rows, names, times })
 }
 
 // Returns the names of a run of a program, where the program's defs are called so, by what the run says of its rows. If a row is missing there, which no run of
@@ -271,7 +282,7 @@ fn given_run(
     progress: &mut dyn Progress,
 ) -> Result<NamedRun, Fault>
     ensures { MatchResult result
-        (λ run. HasRun (IsRunGiven text.now bytes.items) run × (length text.now ≤ MOST_TEXT))
+        (λ run. HasRun (IsRunGiven text.now bytes.items) run × (length text.now ≤ MOST_TEXT) × (run.times ≡ None))
         (IsOfGiven text.now bytes.items) }
 {
     let (program, defs) = read_listed(alloc, text)?;
@@ -283,7 +294,11 @@ fn given_run(
     let rows = recorded.into_rows();
     // For the proof alone, and free: that they have the shape of rows.
     let _shape = rows.as_slice();
-    Ok(NamedRun { rows, names })
+    Ok(NamedRun {
+        rows,
+        names,
+        times: None,
+    })
 }
 
 // The same run, with the names that a file gives to its rows and cowns laid over those that they have.
@@ -292,9 +307,9 @@ fn renamed(alloc: Global, run: NamedRun, file: &[u8]) -> Result<NamedRun, Fault>
     ensures renamed { MatchResult result (IsRenamed file.now run) (IsRefusedName file.now run.names) }
     ensures kept { IfErr result (λ fault. gone_of fault ≡ None) }
 {
-    let NamedRun { rows, names } = run;
+    let NamedRun { rows, names, times } = run;
     match read_names(alloc, file, names) {
-        Ok(names) => Ok(NamedRun { rows, names }),
+        Ok(names) => Ok(NamedRun { rows, names, times }),
         Err(fault) => Err(of_names_file(fault)),
     }
 }
@@ -346,7 +361,11 @@ fn numbered_record<S: Source>(alloc: Global, source: &mut S) -> Result<NamedRun,
 {
     let (rows, cowns) = read_counted(alloc, source)?;
     let names = numbers_as_names(alloc, rows.as_slice().len() as u32, cowns)?;
-    Ok(NamedRun { rows, names })
+    Ok(NamedRun {
+        rows,
+        names,
+        times: None,
+    })
 }
 
 // The record whose text a source gives, of a run of the program that a file spells, whose rows and cowns are called as they are in the program's text.
@@ -368,7 +387,11 @@ fn followed_record<S: Source>(
     let rows = recorded.into_rows();
     // For the proof alone, and free: that they have the shape of rows.
     let _shape = rows.as_slice();
-    Ok(NamedRun { rows, names })
+    Ok(NamedRun {
+        rows,
+        names,
+        times: None,
+    })
 }
 
 // The program that a file spells, and its defs.

@@ -84,7 +84,7 @@ pub(crate) fn report_after<W: Sink>(
 }
 
 // Returns the greedy plan for the workers that were asked for. Without such there is none.
-fn greedy_for(
+pub(crate) fn greedy_for(
     alloc: Global,
     plans: AskedPlans,
     question: &WhatIf,

@@ -92,7 +92,7 @@ pub fn whatif_report<W: Sink>(
     ensures source { (count : ℕ) → CountsSource result count count }
     ensures sink { CountsSink result (W.failures sink.old) (W.failures sink.new) }
 {
-    let NamedRun { rows, names } = run;
+    let NamedRun { rows, names, .. } = run;
     if asked.short {
         let text = short_answer(alloc, &names, asked, rows)?;
         put_out(sink, &text)?;

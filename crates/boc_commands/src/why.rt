@@ -1,15 +1,18 @@
 // The command `why`.
 
 ghost use Rattle.std.specs.Prelude.{◌≡◌, ◌<◌, ◌++◌, IfOk, MatchResult, OnOk};
+ghost use Rattle.std.specs.Option.{option_map};
 ghost use Rattle.boc_plans.specs.Seen.{seen};
 ghost use Rattle.boc_commands.specs.Commands.{AnswersInput, Leaves, CountsSource, CountsSink};
 ghost use Rattle.boc_commands.specs.NamedRuns.{AreFew, IsNamedRun, IsOfNamedRun, IsShort, RefusesNamedRun};
 ghost use Rattle.boc_commands.specs.Notes.{TellsWhy};
+ghost use Rattle.boc_commands.specs.TimedAnswers.{end_of_times};
 ghost use Rattle.boc_commands.specs.WhyAnswers.{IsTold, PutsLine};
 
 use crate::fault::Fault;
 use crate::named_run::{NamedRun, Origin, named_run, taken};
 use crate::notes::{Told, notes_on};
+use boc_busy::TimedRows;
 use boc_greedy::greedy;
 use boc_plans::sharing::Sharing;
 use boc_program::count::Workers;
@@ -17,7 +20,7 @@ use boc_progress::Progress;
 use boc_runs::rows::Rows;
 use boc_text::{Sink, Source, put_out};
 use boc_why::why_of;
-use boc_why_report::{put_greedy_line, why_text};
+use boc_why_report::{TimedEnd, put_greedy_line, why_text};
 use boc_words::{AskedWhy, RunFile};
 use boc_workers::Gate;
 use std::alloc::{AllocError, Global};
@@ -26,8 +29,8 @@ use std::thread::Threads;
 
 /// Reads a program, which it runs, or the text of a record, as its first word says, and writes why the rows of the run take as long as they do: the chain that
 /// holds them back, its ticks by def and by link, what would move the end forward, and a lower bound for any order on the cowns. A last line reports on the
-/// greedy plan for the given number of workers, if that is requested. `bytes` are those of the file given with the input, if there is one. The notes replace
-/// those in `notes`.
+/// greedy plan for the given number of workers, if that is requested. For a program whose workers take ticks as time, the first line has the end of the run.
+/// `bytes` are those of the file given with the input, if there is one. The notes replace those in `notes`.
 ///
 /// A program is refused as by `run`, a record as by `profile`, and a file as its kind is. Nothing is written unless the whole answer is ready. After a failing
 /// write a beginning of it went out. Plans are made in threads. The text of a record is taken into memory as a whole. `progress` receives how far
@@ -97,14 +100,28 @@ fn told<R: Threads + Sync>(
     asked: AskedWhy,
 ) -> Result<Vec<u8>, AllocError>
     requires { AreFew run.now.rows run.now.names }
-    ensures { IfOk result (λ text. IsTold run.now.rows run.now.names asked text.items) }
+    ensures { IfOk result (λ text. IsTold run.now.rows run.now.names asked run.now.times text.items) }
 {
     let names = &run.names;
     let sharing = asked.sharing;
     let why = why_of(rt, alloc, &run.rows, sharing, &names.defs, &names.families)?;
-    let mut text = why_text(alloc, names, sharing, asked.all, &why)?;
+    let timed = end_of_times(&run.times);
+    let mut text = why_text(alloc, names, sharing, asked.all, timed, &why)?;
     put_asked_line(alloc, &mut text, &run.rows, sharing, asked.workers)?;
     Ok(text)
+}
+
+// Returns when a run was over, and by how many workers, where it is known when its rows ran.
+fn end_of_times(times: &Option<TimedRows>) -> Option<TimedEnd>
+    ensures { result ≡ option_map end_of_times times.now }
+{
+    match times {
+        Some(times) => Some(TimedEnd {
+            workers: times.p,
+            tick: times.ends_at,
+        }),
+        None => None,
+    }
 }
 
 // Appends the line of the greedy plan to a text, where a number of workers is given.

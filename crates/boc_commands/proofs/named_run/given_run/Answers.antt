@@ -1,4 +1,4 @@
-use Rattle.std.proofs.Common.{List, subst, sym}
+use Rattle.std.proofs.Common.{List, refl, subst, sym}
 use Rattle.boc_runs.specs.declared.rows.Row.{Row}
 use Rattle.boc_runs.specs.Rows.{IsRows}
 use Rattle.boc_commands.specs.NamedRuns.{AreFew, IsOfGiven}
@@ -39,4 +39,5 @@ returns g c =
         few = subst (λ (rows : List Row). AreFew rows c.in-Ok.names) (sym c.into_rows-rows.ensures.value) few;
       },
       spelled.short,
+      refl,
     )

@@ -5,7 +5,7 @@ pub returns-in_ok-own-in-Names : goal.returns-in_ok-own-in-Names
 returns-in_ok-own-in-Names g c =
     renamed_as g.G.Gate.always_on c.args.origin.schedule c.args.text.items c.args.origin.bytes.items c.deref-in-Names.result.now
     c.in_ok-own-in-Names.own c.renamed.result
-    c.args.origin.file.now c.in-Some.file c.in-Names.field-0 c.in-Some.is c.in-Names.is c.in_ok-own-in-Names.ensures.0 c.in_ok-own-in-Names.ensures.1
+    c.args.origin.file.now c.in-Some.file c.in-Names.field-0 c.in-Some.is c.in-Names.is c.in_ok-own-in-Names.ensures.0 c.in_ok-own-in-Names.ensures.1 c.in_ok-own-in-Names.ensures.2
     c.deref-in-Names.ensures.value c.renamed.ensures.renamed
 
 pub returns-in_default : goal.returns-in_default

@@ -6,6 +6,7 @@ use Rattle.boc_names.specs.Names.{AreNamesOf, Text}
 use Rattle.boc_commands.specs.Commands.{IsOfRun}
 use Rattle.boc_commands.specs.NamedRuns.{AreFew}
 use Rattle.boc_commands.specs.Promises.{IsRunOf}
+use Rattle.boc_commands.specs.Schedules.{AreTimes}
 use Rattle.boc_commands.proofs.Passed.{passed_on, refused_course}
 use Rattle.boc_commands.proofs.RunNames.{named_few}
 use Rattle.boc_commands.proofs.named_run.program_run.Goals as goal
@@ -42,4 +43,10 @@ returns g c =
         few = subst (λ (rows : List Row). AreFew rows c.in_ok-names.names) (sym c.into_rows-rows.ensures.value) few;
       },
       spelled.short,
+      record {
+        program = c.in_ok-program.program;
+        spells = spelled;
+        times_are = subst (λ (rows : List Row). AreTimes c.in_ok-program.program c.args.schedule rows c.in_ok-run.run'.times)
+            (sym c.into_rows-rows.ensures.value) c.in_ok-run.ensures.times;
+      },
     )

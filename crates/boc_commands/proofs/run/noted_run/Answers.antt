@@ -26,4 +26,5 @@ returns g c =
       record { program = c.in_ok-program.program; spells = spelled; scheduled = c.in_ok-run.ensures.scheduled },
       noted,
       spelled.short,
+      record { program = c.in_ok-program.program; spells = spelled; times_are = c.in_ok-run.ensures.times },
     )

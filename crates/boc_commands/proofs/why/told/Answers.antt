@@ -1,4 +1,6 @@
-use Rattle.std.proofs.Common.{ℕ, List, length, subst}
+use Rattle.std.proofs.Common.{ℕ, List, Option, length, subst}
+use Rattle.boc_why_report.specs.declared.told.TimedEnd.{TimedEnd}
+use Rattle.boc_why_report.specs.WhyTexts.{IsWhyText}
 use Rattle.boc_why.specs.Why.{IsWhy}
 use Rattle.boc_commands.proofs.why.told.Goals as goal
 
@@ -13,6 +15,7 @@ returns g c = record {
       (subst (λ (defs : List ℕ). IsWhy c.args.run.now.rows c.args.asked.sharing defs c.deref-2.result.now (length c.deref-2.result.now) c.in_ok-why.why)
       c.deref.ensures.value c.in_ok-why.ensures.why);
   without_line = c.in_ok-text.text.items;
-  told = c.in_ok-text.ensures;
+  told = subst (λ (end : Option TimedEnd). IsWhyText c.args.run.now.names c.args.asked.sharing c.args.asked.all end c.in_ok-why.why c.in_ok-text.text.items)
+      c.end_of_times-timed.ensures c.in_ok-text.ensures;
   put = c.in_ok-put_asked_line.ensures;
 }

@@ -1,6 +1,7 @@
 use Rattle.std.proofs.Common.{List, ◌≡◌, subst}
 use Rattle.boc_runs.specs.declared.rows.Row.{Row}
 use Rattle.boc_names.specs.Names.{texts_of}
+use Rattle.boc_commands.specs.NamedRuns.{HasTimes}
 use Rattle.boc_commands.specs.Notes.{AreWanted, notes_of_rows}
 use Rattle.boc_commands.specs.WhyAnswers.{IsTold}
 use Rattle.boc_commands.proofs.Passed.{passed_on}
@@ -20,7 +21,10 @@ returns g c =
           recorded = has.recorded;
           names = names;
           named = has.named;
-          told = subst (λ (rows : List Row). IsTold rows names c.args.asked c.in_ok-text.text.items) has.rows_are c.in_ok-text.ensures;
+          times = c.in_ok-run.run'.times;
+          times_are = subst (λ (rows : List Row). HasTimes c.args.asked.schedule c.args.file.now c.args.text.items rows c.in_ok-run.run'.times) has.rows_are
+              c.in_ok-run.ensures.2;
+          told = subst (λ (rows : List Row). IsTold rows names c.args.asked c.in_ok-run.run'.times c.in_ok-text.text.items) has.rows_are c.in_ok-text.ensures;
         };
         noted = noted;
       },

@@ -16,6 +16,7 @@ mod spelling;
 mod subject;
 mod trace;
 mod worker_lines;
+mod worker_plan;
 
 pub use curve_lines::curve_text;
 pub use curve_svg::curve_drawing;
@@ -26,3 +27,4 @@ pub use plan_svg::plan_drawing;
 pub use subject::{Shown, Subject};
 pub use trace::trace_text;
 pub use worker_lines::workers_text;
+pub use worker_plan::WorkerPlan;

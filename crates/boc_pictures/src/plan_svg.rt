@@ -5,8 +5,8 @@ use crate::drawing::{close, open, put_box, put_edged_box, put_text};
 use crate::plan_lines::{MOST_LINES, stretches_of};
 use crate::spelling::Spelling;
 use crate::subject::Subject;
+use crate::worker_plan::WorkerPlan;
 use boc_bars::{Bar, bars_of, lane_count, packed};
-use boc_greedy::Greedy;
 use boc_plans::chain::{ChainStep, Via};
 use std::alloc::{AllocError, Global};
 
@@ -36,7 +36,7 @@ const LABEL_BYTES: usize = 28;
 
 const TITLE_BYTES: usize = 80;
 
-// With more rows than this a mouse is shown less, and nothing at the bars of the greedy plan.
+// With more rows than this a mouse is shown less, and nothing at the bars of plans on workers.
 const MOST_TITLES: usize = 20_000;
 
 // With more rows than this only the bars of the chain, and of the rows that a page lists, have a name that a link leads to.
@@ -77,11 +77,11 @@ impl Layout {
 }
 
 /// Returns the earliest plan as a drawing in SVG: a lane for each row, or, where there are more than 60, lanes of rows that follow each other; the ticks above,
-/// the chain and its links in a colour of their own, and below it the greedy plan, where there is one.
+/// the chain and its links in a colour of their own, and below it these plans on workers.
 pub fn plan_drawing(
     alloc: Global,
     subject: &Subject,
-    greedy: Option<&Greedy>,
+    plans: &[WorkerPlan<'_>],
 ) -> Result<String, AllocError> {
     let stretches = stretches_of(alloc, subject)?;
     let named = subject.count() <= MOST_LINES;
@@ -91,14 +91,12 @@ pub fn plan_drawing(
         packed(alloc, &stretches)?
     };
     let lanes = lane_count(&bars);
-    let layout = layout_of(subject, greedy, named, lanes);
+    let layout = layout_of(subject, plans, named, lanes);
     let bottom = layout.lane.saturating_mul(lanes).saturating_add(TOP);
-    let height = match greedy {
-        Some(plan) => bottom
-            .saturating_add(1_400)
-            .saturating_add(LANE.saturating_mul(plan.p as u64)),
-        None => bottom.saturating_add(700),
-    };
+    let mut height = bottom.saturating_add(700);
+    for plan in plans {
+        height = height.saturating_add(height_of(*plan));
+    }
     let mut text = String::new(alloc);
     open(&mut text, WIDTH, height)?;
     put_heading(&mut text, subject)?;
@@ -110,20 +108,22 @@ pub fn plan_drawing(
     if named {
         put_names(alloc, &mut text, subject, layout)?;
     }
-    if let Some(plan) = greedy {
-        put_greedy(alloc, &mut text, subject, layout, plan, bottom)?;
+    let mut top = bottom;
+    for plan in plans {
+        put_plan(alloc, &mut text, subject, layout, *plan, top)?;
+        top = top.saturating_add(height_of(*plan));
     }
-    put_legend(&mut text, greedy.is_some(), height.saturating_sub(200))?;
+    put_legend(&mut text, plans, height.saturating_sub(200))?;
     close(&mut text)?;
     Ok(text)
 }
 
 // Returns where the bars of the given number of lanes are.
-fn layout_of(subject: &Subject, greedy: Option<&Greedy>, named: bool, lanes: u64) -> Layout {
-    let end = match greedy {
-        Some(plan) => plan.bound.max(subject.span),
-        None => subject.span,
-    };
+fn layout_of(subject: &Subject, plans: &[WorkerPlan<'_>], named: bool, lanes: u64) -> Layout {
+    let mut end = subject.span;
+    for plan in plans {
+        end = end.max(plan.bound);
+    }
     let from = if named { LABELS } else { NO_LABELS };
     let axis = Axis {
         end,
@@ -461,21 +461,28 @@ fn put_names(
     Ok(())
 }
 
-// Puts the greedy plan below.
-fn put_greedy(
+// Returns how high a plan on workers is with its heading.
+fn height_of(plan: WorkerPlan<'_>) -> u64 {
+    LANE.saturating_mul(plan.p as u64).saturating_add(700)
+}
+
+// Puts a plan on workers below.
+fn put_plan(
     alloc: Global,
     text: &mut String,
     subject: &Subject,
     layout: Layout,
-    plan: &Greedy,
+    plan: WorkerPlan<'_>,
     top: u64,
 ) -> Result<(), AllocError> {
     let top = top.saturating_add(700);
     let bottom = LANE.saturating_mul(plan.p as u64).saturating_add(top);
     writeln!(
         text,
-        "<text class=\"title\" x=\"10\" y=\"{}\">The greedy plan for {} workers: end {}, bound {}</text>",
+        "<text class=\"title\" x=\"10\" y=\"{}\">{} {} {} workers: end {}, bound {}</text>",
         Tenths(top.saturating_sub(300)),
+        plan.title(),
+        plan.joint(),
         plan.p,
         plan.ends_at,
         plan.bound
@@ -490,13 +497,9 @@ fn put_greedy(
     }
     text.push_str("<g class=\"bars\">\n")?;
     for shown in &subject.shown {
-        let row = shown.row as usize;
-        if let Some(worker) = plan.workers.get(row)
-            && let Some(start) = plan.starts.get(row)
-            && let Some(end) = plan.ends.get(row)
-        {
-            let y = LANE.saturating_mul(*worker as u64).saturating_add(top);
-            put_share(alloc, text, subject, layout, shown.row, *start, *end, y)?;
+        if let Some(bar) = plan.bar(shown.row) {
+            let y = LANE.saturating_mul(bar.lane as u64).saturating_add(top);
+            put_share(alloc, text, subject, layout, bar, y)?;
         }
     }
     text.push_str("</g>\n")?;
@@ -506,7 +509,7 @@ fn put_greedy(
         layout.axis.at(plan.ends_at),
         top,
         bottom,
-        "the end of the greedy plan",
+        plan.end_name(),
     )?;
     put_mark(
         text,
@@ -518,17 +521,21 @@ fn put_greedy(
     )
 }
 
-// Puts a bar of the greedy plan.
+// Puts a bar of a plan on workers.
 fn put_share(
     alloc: Global,
     text: &mut String,
     subject: &Subject,
     layout: Layout,
-    row: u32,
-    start: u64,
-    end: u64,
+    bar: Bar,
     y: u64,
 ) -> Result<(), AllocError> {
+    let Bar {
+        row,
+        start,
+        end,
+        ..
+    } = bar;
     text.push_str("<path ")?;
     put_edged_box(
         text,
@@ -565,7 +572,7 @@ fn put_mark(
 }
 
 // Puts what shapes and colours say.
-fn put_legend(text: &mut String, greedy: bool, y: u64) -> Result<(), AllocError> {
+fn put_legend(text: &mut String, plans: &[WorkerPlan<'_>], y: u64) -> Result<(), AllocError> {
     let top = y.saturating_sub(110);
     text.push_str("<g class=\"chain\"><path ")?;
     put_box(text, Tenths(100), top, 300, 120)?;
@@ -591,14 +598,21 @@ fn put_legend(text: &mut String, greedy: bool, y: u64) -> Result<(), AllocError>
         Tenths(top)
     )?;
     put_text(text, "small", 8_580, y, "spawns a row")?;
-    if greedy {
+    if let [first, others @ ..] = plans {
+        let end = if !others.is_empty() {
+            "either end"
+        } else if first.is_timed() {
+            "timed end"
+        } else {
+            "greedy end"
+        };
         writeln!(
             text,
             "<path class=\"end\" d=\"M965 {}v12\"/><path class=\"bound\" d=\"M1060 {}v12\"/>",
             Tenths(top),
             Tenths(top)
         )?;
-        put_text(text, "small", 9_720, y, "greedy end")?;
+        put_text(text, "small", 9_720, y, end)?;
         put_text(text, "small", 10_680, y, "bound")?;
     }
     Ok(())

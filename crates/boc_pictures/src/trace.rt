@@ -3,25 +3,27 @@
 use crate::plan_lines::stretches_of;
 use crate::spelling::Spelling;
 use crate::subject::Subject;
+use crate::worker_plan::WorkerPlan;
 use boc_bars::{Bar, lane_count, packed};
-use boc_greedy::Greedy;
 use boc_plans::chain::Via;
 use std::alloc::{AllocError, Global};
 
-// The process of the earliest plan, and that of the greedy one.
+// The process of the earliest plan, that of the greedy one, and that of the timed run.
 const EARLIEST: u32 = 1;
 
 const GREEDY: u32 = 2;
 
+const TIMED: u32 = 3;
+
 // The most bytes of a name.
 const NAME_BYTES: usize = 160;
 
-/// Returns the earliest plan, and the greedy plan where there is one, as events of a trace in JSON: a process for each plan, a thread for each lane or worker,
+/// Returns the earliest plan, and these plans on workers, as events of a trace in JSON: a process for each plan, a thread for each lane or worker,
 /// an event for each row from its start to its end, and arrows along the chain. A tick is a microsecond.
 pub fn trace_text(
     alloc: Global,
     subject: &Subject,
-    greedy: Option<&Greedy>,
+    plans: &[WorkerPlan<'_>],
 ) -> Result<String, AllocError> {
     let bars = packed(alloc, &stretches_of(alloc, subject)?)?;
     let mut text = String::new(alloc);
@@ -32,10 +34,15 @@ pub fn trace_text(
         put_event(alloc, &mut text, subject, EARLIEST, bar)?;
     }
     put_arrows(alloc, &mut text, subject, &bars)?;
-    if let Some(plan) = greedy {
-        put_process(&mut text, GREEDY, "the greedy plan")?;
-        put_threads(&mut text, GREEDY, "worker", plan.p as u64)?;
-        put_greedy(alloc, &mut text, subject, plan)?;
+    for plan in plans {
+        let process = if plan.is_timed() { TIMED } else { GREEDY };
+        put_process(&mut text, process, plan.name())?;
+        put_threads(&mut text, process, "worker", plan.p as u64)?;
+        for shown in &subject.shown {
+            if let Some(bar) = plan.bar(shown.row) {
+                put_event(alloc, &mut text, subject, process, &bar)?;
+            }
+        }
     }
     write!(
         text,
@@ -91,31 +98,6 @@ fn put_event(
         write!(text, ",\"chain\":{}", row.through)?;
     }
     text.push_str("}},\n")
-}
-
-// Puts the events of a greedy plan.
-fn put_greedy(
-    alloc: Global,
-    text: &mut String,
-    subject: &Subject,
-    plan: &Greedy,
-) -> Result<(), AllocError> {
-    for shown in &subject.shown {
-        let row = shown.row as usize;
-        if let Some(worker) = plan.workers.get(row)
-            && let Some(start) = plan.starts.get(row)
-            && let Some(end) = plan.ends.get(row)
-        {
-            let bar = Bar {
-                row: shown.row,
-                start: *start,
-                end: *end,
-                lane: *worker,
-            };
-            put_event(alloc, text, subject, GREEDY, &bar)?;
-        }
-    }
-    Ok(())
 }
 
 // Returns the lane of each row.

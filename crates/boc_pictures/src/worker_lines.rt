@@ -1,23 +1,27 @@
-// The greedy plan in text.
+// Plans on workers in text.
 
 use crate::columns::{Columns, percent, put_folded, put_line};
 use crate::letters::{letters, mark_of, put_key};
 use crate::subject::Subject;
-use boc_greedy::Greedy;
+use crate::worker_plan::WorkerPlan;
 use std::alloc::{AllocError, Global};
 
-/// Returns the greedy plan, a line for each worker, in the given number of columns: a letter for each def, and what part of the plan the worker is busy.
+/// Returns a plan on workers, a line for each worker, in the given number of columns: a letter for each def, and what part of the plan the worker is busy.
 pub fn workers_text(
     alloc: Global,
     subject: &Subject,
-    plan: &Greedy,
+    plan: WorkerPlan<'_>,
     width: usize,
 ) -> Result<String, AllocError> {
     let letters = letters(alloc, &subject.names.def_names)?;
     let columns = Columns::new(plan.ends_at, width.saturating_sub(18).max(20));
     let mut head = format!(in alloc;
-        "the greedy plan for {} workers, end {}, bound {}: ",
-        plan.p, plan.ends_at, plan.bound
+        "{} {} {} workers, end {}, bound {}: ",
+        plan.name(),
+        plan.joint(),
+        plan.p,
+        plan.ends_at,
+        plan.bound
     )?;
     columns.put_scale(&mut head)?;
     put_key(alloc, &mut head, subject, &letters, width)?;
@@ -34,7 +38,7 @@ fn put_worker(
     alloc: Global,
     text: &mut String,
     subject: &Subject,
-    plan: &Greedy,
+    plan: WorkerPlan<'_>,
     worker: u32,
     letters: &[u8],
     columns: Columns,
@@ -42,14 +46,12 @@ fn put_worker(
     let mut line = columns.line(alloc)?;
     let mut busy: u64 = 0;
     for shown in &subject.shown {
-        let row = shown.row as usize;
-        if plan.workers.get(row) == Some(&worker)
-            && let Some(start) = plan.starts.get(row)
-            && let Some(end) = plan.ends.get(row)
+        if let Some(bar) = plan.bar(shown.row)
+            && bar.lane == worker
         {
-            let letter = mark_of(letters, subject, shown.row);
-            columns.paint(&mut line, *start, *end, letter);
-            busy = busy.saturating_add(end.saturating_sub(*start));
+            let letter = mark_of(letters, subject, bar.row);
+            columns.paint(&mut line, bar.start, bar.end, letter);
+            busy = busy.saturating_add(bar.end.saturating_sub(bar.start));
         }
     }
     write!(text, "worker {worker:<2} ")?;

@@ -13,7 +13,7 @@ use Rattle.boc_greedy.specs.Plans.{IsGreedyPlanOf}
 use Rattle.boc_cowns.specs.Hot.{IsHotCowns}
 use Rattle.boc_pictures.specs.Subjects.{IsSubject}
 use Rattle.boc_commands.specs.declared.named_run.NamedRun.{NamedRun}
-use Rattle.boc_commands.specs.NamedRuns.{BeginsRecord, HasRun, IsNamedRun}
+use Rattle.boc_commands.specs.NamedRuns.{BeginsRecord, HasRun, HasTimes, IsNamedRun}
 use Rattle.boc_view.specs.declared.material.Costs.{Costs}
 use Rattle.boc_view.specs.declared.material.Material.{Material}
 use Rattle.boc_view.specs.declared.wanted.Picture.{Picture}
@@ -22,13 +22,13 @@ use Rattle.boc_view.specs.declared.wanted.Wanted.{Wanted}
 
 -- ---- what a picture shows
 
--- whether it shows the greedy plan for the workers that are asked for
-abbrev pub shows_greedy : Picture → Bool
-shows_greedy (Text cowns curve) = not curve
-shows_greedy Plan = true
-shows_greedy Curve = false
-shows_greedy Page = true
-shows_greedy Trace = true
+-- whether it shows which worker runs what: in the greedy plan for the workers that are asked for, and in a timed run
+abbrev pub shows_workers : Picture → Bool
+shows_workers (Text cowns curve) = not curve
+shows_workers Plan = true
+shows_workers Curve = false
+shows_workers Page = true
+shows_workers Trace = true
 
 -- whether it shows when the greedy plans for 1, 2, 3 and more workers end
 abbrev pub shows_curve : Picture → Bool
@@ -48,7 +48,7 @@ shows_costs Trace = false
 
 -- the workers whose greedy plan is shown, if any
 abbrev pub workers_shown : Wanted → Option ℕ
-workers_shown wanted = if shows_greedy wanted.picture then wanted.workers else None
+workers_shown wanted = if shows_workers wanted.picture then wanted.workers else None
 
 -- the most workers of a curve: as many as are asked for, and 64 where no number is given
 abbrev pub most_of : Option ℕ → ℕ
@@ -82,11 +82,12 @@ pub record IsProgramShown (is_wanted : Bool) (input shown : List ℕ) : Type 0 w
   pub none_wanted : is_wanted ≡ false → shown ≡ []
   pub none_there : BeginsRecord input → shown ≡ []
 
--- The parts that are made of the rows of a run: what all pictures show of them, as plans see them; the greedy plan; the points of the curve; and what rows
--- and cowns cost.
+-- The parts that are made of the rows of a run: what all pictures show of them, as plans see them; the greedy plan; when the rows
+-- of a timed run ran; the points of the curve; and what rows and cowns cost.
 pub record HasParts (wanted : Wanted) (run : NamedRun) (material : Material) : Type 0 where
   pub subject : IsSubject run.rows run.names wanted.sharing material.subject
   pub greedy : IsPlanFor run.rows wanted.sharing (workers_shown wanted) material.greedy
+  pub times : material.times ≡ (if shows_workers wanted.picture then run.times else None)
   pub points : IsPart (shows_curve wanted.picture) (λ (points : Vec CurvePoint Global). IsCurve (seen wanted.sharing run.rows) (most_of wanted.workers)
       points.items) material.points
   pub costs : IsPart (shows_costs wanted.picture) (AreCosts run.rows wanted.sharing (length run.names.cowns.items)) material.costs
@@ -96,5 +97,6 @@ pub record HasParts (wanted : Wanted) (run : NamedRun) (material : Material) : T
 pub record IsMaterial (wanted : Wanted) (file input : List ℕ) (material : Material) : Type 0 where
   pub run : NamedRun
   pub has : HasRun (IsNamedRun wanted.schedule wanted.file file input) run
+  pub times : HasTimes wanted.schedule wanted.file input run.rows run.times
   pub parts : HasParts wanted run material
   pub program : IsProgramShown (shows_costs wanted.picture) input material.program.items

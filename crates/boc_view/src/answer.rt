@@ -10,8 +10,8 @@ use boc_commands::Fault;
 use boc_commands::named_run::taken;
 use boc_front::Watch;
 use boc_pictures::{
-    Page, cowns_text, curve_drawing, curve_text, page_text, plan_drawing, plan_text, trace_text,
-    workers_text,
+    Page, WorkerPlan, cowns_text, curve_drawing, curve_text, page_text, plan_drawing, plan_text,
+    trace_text, workers_text,
 };
 use boc_progress::Progress;
 use boc_text::Source;
@@ -53,11 +53,23 @@ fn drawn(
     let subject = &material.subject;
     match picture {
         Picture::Text { cowns, .. } => lines(alloc, material, cowns, width),
-        Picture::Plan => plan_drawing(alloc, subject, material.greedy.as_ref()),
+        Picture::Plan => plan_drawing(alloc, subject, &on_workers(alloc, material)?),
         Picture::Curve => curve_of(alloc, material),
         Picture::Page => page_of(alloc, material),
-        Picture::Trace => trace_text(alloc, subject, material.greedy.as_ref()),
+        Picture::Trace => trace_text(alloc, subject, &on_workers(alloc, material)?),
     }
+}
+
+// Returns the plans on workers that are shown: the greedy one, and then the schedule of a timed run.
+fn on_workers(alloc: Global, material: &Material) -> Result<Vec<WorkerPlan<'_>>, AllocError> {
+    let mut plans = Vec::new(alloc);
+    if let Some(plan) = &material.greedy {
+        plans.push(WorkerPlan::greedy(plan))?;
+    }
+    if let Some(rows) = &material.times {
+        plans.push(WorkerPlan::timed(rows))?;
+    }
+    Ok(plans)
 }
 
 // Returns the curve as a drawing.
@@ -77,15 +89,15 @@ fn lines(
     width: usize,
 ) -> Result<String, AllocError> {
     let subject = &material.subject;
-    if !cowns && material.points.is_none() && material.greedy.is_none() {
-        return plan_text(alloc, subject, width);
-    }
     let mut text = String::new(alloc);
+    if !cowns && material.points.is_none() && material.greedy.is_none() {
+        text.push_str(plan_text(alloc, subject, width)?.as_str())?;
+    }
     if cowns {
         text.push_str(cowns_text(alloc, subject, width)?.as_str())?;
     }
-    if let Some(plan) = &material.greedy {
-        text.push_str(workers_text(alloc, subject, plan, width)?.as_str())?;
+    for plan in &on_workers(alloc, material)? {
+        text.push_str(workers_text(alloc, subject, *plan, width)?.as_str())?;
     }
     if let Some(points) = &material.points {
         let curve = curve_text(alloc, subject.work, subject.span, points, width)?;
@@ -96,7 +108,7 @@ fn lines(
 
 // Returns the page.
 fn page_of(alloc: Global, material: &Material) -> Result<String, AllocError> {
-    let plan = plan_drawing(alloc, &material.subject, material.greedy.as_ref())?;
+    let plan = plan_drawing(alloc, &material.subject, &on_workers(alloc, material)?)?;
     let curve = curve_of(alloc, material)?;
     let Some(costs) = &material.costs else {
         return Ok(String::new(alloc));

@@ -8,6 +8,7 @@ ghost use Rattle.boc_commands.specs.NamedRuns.{AreFew, IsOfNamedRun, IsShort};
 ghost use Rattle.boc_view.specs.Materials.{AreCosts, HasParts, IsMaterial, IsPart, IsPlanFor, IsProgramShown, most_of, shows_costs, shows_curve};
 
 use crate::wanted::{Picture, Wanted};
+use boc_busy::TimedRows;
 use boc_commands::named_run::named_run;
 use boc_commands::{Fault, NamedRun, Origin};
 use boc_cowns::{HotCowns, hot_cowns};
@@ -32,6 +33,8 @@ pub(crate) struct Material {
     pub subject: Subject,
     /// The greedy plan, where one is requested.
     pub greedy: Option<Greedy>,
+    /// When the rows of a timed run ran, and on which workers.
+    pub times: Option<TimedRows>,
     /// When the greedy plans for 1, 2, 3 and more workers end.
     pub points: Option<Vec<CurvePoint>>,
     pub costs: Option<Costs>,
@@ -86,14 +89,20 @@ fn parts_of<R: Threads + Sync>(
     ensures parts { IfOk result (HasParts wanted.now run) }
     ensures program { IfOk result (λ material. material.program.items ≡ program.items) }
 {
-    let NamedRun { rows, names } = run;
+    let NamedRun { rows, names, times } = run;
     let greedy = plan_for(alloc, &rows, wanted.sharing, wanted.workers_shown())?;
     let points = points_for(rt, alloc, &rows, wanted)?;
     let costs = costs_for(rt, alloc, &rows, names.cowns.len() as u32, wanted)?;
+    let times = if wanted.picture.shows_workers() {
+        times
+    } else {
+        None
+    };
     let subject = Subject::of(alloc, rows, names, wanted.sharing)?;
     Ok(Material {
         subject,
         greedy,
+        times,
         points,
         costs,
         program,

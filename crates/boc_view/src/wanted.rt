@@ -1,7 +1,7 @@
 // What is requested.
 
 ghost use Rattle.std.specs.Prelude.{◌≡◌};
-ghost use Rattle.boc_view.specs.Materials.{most_of, shows_costs, shows_curve, shows_greedy, workers_shown};
+ghost use Rattle.boc_view.specs.Materials.{most_of, shows_costs, shows_curve, shows_workers, workers_shown};
 
 use boc_commands::{RunFile, Schedule};
 use boc_front::Given;
@@ -14,7 +14,7 @@ use boc_program::limits::MOST_WORKERS;
 pub(crate) enum Picture {
     /// Lines of text: the earliest plan, unless others are asked for.
     Text { cowns: bool, curve: bool },
-    /// A drawing of the earliest plan, with the greedy one below it where a number of workers is given.
+    /// A drawing of the earliest plan, with plans on workers below it: the greedy one where a number of workers is given, and that of a timed run.
     Plan,
     /// A drawing of the ends of greedy plans.
     Curve,
@@ -36,9 +36,9 @@ impl Picture {
         }
     }
 
-    // Returns whether it shows the greedy plan for the workers that are asked for.
-    fn shows_greedy(self) -> bool
-        ensures { result ≡ shows_greedy self }
+    /// Returns whether it shows which worker runs what: in the greedy plan for the workers that are asked for, and in a timed run.
+    pub(crate) fn shows_workers(self) -> bool
+        ensures { result ≡ shows_workers self }
     {
         match self {
             Picture::Text { curve, .. } => !curve,
@@ -90,7 +90,7 @@ impl Wanted {
     pub(crate) fn workers_shown(&self) -> Option<Workers>
         ensures { result ≡ workers_shown self.now }
     {
-        if self.picture.shows_greedy() {
+        if self.picture.shows_workers() {
             self.workers
         } else {
             None

@@ -18,10 +18,11 @@ pub(crate) const MOST_COLUMNS: i64 = 1_000;
 // What holds of every picture.
 const COMMON: &str =
     "Input that begins with `boc` is the record of a run. Anything else is a program,
-which is run first, on one thread unless --workers or --seed says otherwise. A
-run with --seed is that of `boc run --seed`: the same each time; give it -w 2 or
-more. Input is read from FILE, or from standard input if FILE is missing or `-`.
-The picture goes to standard output.
+which is run first, on one thread unless --workers, --seed or --timed says
+otherwise. A run with --seed is that of `boc run --seed`: the same each time;
+give it -w 2 or more. A run with --timed is that of `boc run --timed`. Input is
+read from FILE, or from standard input if FILE is missing or `-`. The picture
+goes to standard output.
 
 What is drawn is the earliest plan of the run: each behaviour (task) starts as
 soon as it is spawned and has its cowns. The chain is the critical path: its
@@ -31,6 +32,8 @@ ticks add up to the span.
          ends of greedy plans for 1, 2, 4 .. workers, up to P.
   page   Has the plan, the curve, the chain, what each behaviour and each cown
          costs, and the program.
+With --timed, text, plan, page and trace add which worker runs what, and when;
+`text --curve` doesn't.
 
 Exit statuses, as those of boc:
   0  Success
@@ -180,6 +183,11 @@ fn with_common<'a>(alloc: Global, command: Command<'a>) -> Result<Command<'a>, A
             MOST_DEPTH,
             "With --seed, use random priorities of depth D, 1 to 16",
         ))?
+        .arg(flag(
+            alloc,
+            "timed",
+            "Simulate N workers with ticks as time; 16 without -w",
+        ))?
         .arg(number(
             alloc,
             "p",
@@ -219,11 +227,20 @@ fn asked_of(alloc: Global, matches: &ArgMatches) -> Result<Asked, Fault> {
     let runners = number_at(matches, "workers");
     let seed = seed_at(matches);
     let depth = number_at(matches, "depth");
+    let workers = number_at(matches, "p").and_then(|number| Workers::new(number));
+    let is_timed = is_set(matches, "timed");
     if depth.is_some() && seed.is_none() {
         return refused(
             alloc,
             ErrorKind::ArgumentConflict,
             "the argument '--depth <D>' cannot be used without '--seed <S>'",
+        );
+    }
+    if is_timed && seed.is_some() {
+        return refused(
+            alloc,
+            ErrorKind::ArgumentConflict,
+            "the argument '--timed' cannot be used with '--seed <S>'",
         );
     }
     let record = text_at(alloc, matches, "record")?;
@@ -242,13 +259,17 @@ fn asked_of(alloc: Global, matches: &ArgMatches) -> Result<Asked, Fault> {
     };
     Ok(Asked::Picture(Wanted {
         picture,
-        schedule: schedule_of(runners, seed, depth),
+        schedule: if is_timed {
+            Schedule::Timed(timed_workers(runners, workers))
+        } else {
+            schedule_of(runners, seed, depth)
+        },
         given: Given {
             workers: runners.is_some(),
             seed: seed.is_some(),
             depth: depth.is_some(),
         },
-        workers: number_at(matches, "p").and_then(|number| Workers::new(number)),
+        workers,
         sharing: if is_set(matches, "shared-reads") {
             Sharing::SharedReads
         } else {
@@ -267,6 +288,17 @@ fn refused(alloc: Global, kind: ErrorKind, text: &str) -> Result<Asked, Fault> {
         Ok(error) => Err(Fault::from(WordsFault::Parser(error))),
         Err(error) => Err(Fault::from(error)),
     }
+}
+
+// Returns on how many workers a timed run is: as many as are given; else as many as there is a greedy plan for, but no more than there may be; else those.
+fn timed_workers(runners: Option<u32>, workers: Option<Workers>) -> Runners {
+    let most = MOST_RUNNERS as u32;
+    let number = match (runners, workers) {
+        (Some(number), _) => number,
+        (None, Some(workers)) => workers.number().min(most),
+        (None, None) => most,
+    };
+    Runners::new(number).unwrap_or(Runners::new(1).unwrap())
 }
 
 // Returns how a program is run: by threads, or as a seed has it.

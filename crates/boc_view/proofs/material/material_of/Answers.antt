@@ -10,6 +10,7 @@ returns g c =
       record {
         run = c.in_ok-run.run';
         has = c.in_ok-run.ensures.0;
+        times = c.in_ok-run.ensures.2;
         parts = c.in_ok-material.ensures.parts;
         program = subst (λ (bytes : List ℕ). IsProgramShown wanted c.args.text.items bytes) (sym c.in_ok-material.ensures.program) of_text;
       },

@@ -8,25 +8,18 @@ use boc_program::short::Cowns;
 use boc_record::{RecordFault, RecordFaultKind};
 use boc_rules::Judge;
 use boc_said::said::Part::{Many, Number};
-use boc_said::said::Said;
+use boc_said::said::{Said, Told};
 use boc_text::read_number;
-use std::alloc::{AllocError, Global};
 
 /// Reports which rule the event of a line breaks, by what.
-pub(crate) fn put_broken(
-    alloc: Global,
-    said: &mut Said,
-    text: &[u8],
-    line: &[u8],
-    fault: RecordFault,
-) -> Result<(), AllocError> {
-    let mut numbers = Vec::new(alloc);
+pub(crate) fn put_broken(said: &mut Said, text: &[u8], line: &[u8], fault: RecordFault) -> Told {
+    let mut numbers = Vec::new(said.alloc);
     for field in line.split(is_space).skip(1) {
         if let Some(number) = read_number(field) {
             numbers.push(number)?;
         }
     }
-    let run = run_before(alloc, text, fault.line)?;
+    let run = run_before(said.alloc, text, fault.line)?;
     let faulty = match fault.kind {
         RecordFaultKind::NumberNotNext => 1,
         RecordFaultKind::ParentNotRunning => 2,
@@ -40,21 +33,20 @@ pub(crate) fn put_broken(
             put_end(said, &run, *row, *ticks, written)
         }
         (kind, [_, parent, offset, cowns @ ..]) => {
-            put_spawn(said, &run, kind, *parent, *offset, cowns)
+            put_spawn(said, &run, kind, [*parent, *offset], cowns)
         }
         _ => Ok(()),
     }
 }
 
-// Reports why a row can't be spawned so.
+// Reports why a row can't be spawned so: by this parent, at this offset, over these cowns.
 fn put_spawn(
     said: &mut Said,
     run: &Judge,
     kind: RecordFaultKind,
-    parent: u32,
-    offset: u32,
+    [parent, offset]: [u32; 2],
     cowns: &[u32],
-) -> Result<(), AllocError> {
+) -> Told {
     let is_full = run.count() >= MOST_ROWS;
     let is_main = run.count() == 0;
     let reason = match kind {
@@ -86,7 +78,7 @@ fn put_spawn(
     Ok(())
 }
 
-fn put_offset(said: &mut Said, run: &Judge, parent: u32, offset: u32) -> Result<(), AllocError> {
+fn put_offset(said: &mut Said, run: &Judge, parent: u32, offset: u32) -> Told {
     match last_child(run.rows(), parent) {
         _ if offset > MOST_TICKS => said.about("an offset is at most 1000000", &[])?,
         None => return said.about("an offset is at least 1", &[]),
@@ -105,7 +97,7 @@ fn put_offset(said: &mut Said, run: &Judge, parent: u32, offset: u32) -> Result<
     said.words(COARSER_TICKS)
 }
 
-fn put_cowns(said: &mut Said, count: u32, cowns: &[u32]) -> Result<(), AllocError> {
+fn put_cowns(said: &mut Said, count: u32, cowns: &[u32]) -> Told {
     for cown in cowns {
         if *cown >= count {
             let parts = [number(*cown), Many(u64::from(count), "cown")];
@@ -116,13 +108,21 @@ fn put_cowns(said: &mut Said, count: u32, cowns: &[u32]) -> Result<(), AllocErro
     said.about("cowns must rise, each above the one before it", &[])
 }
 
+// Returns how far a row has come that has no such event now.
+fn life_words(life: Option<Life>) -> &'static str {
+    match life {
+        None => "row {} is not spawned yet",
+        Some(Life::Pending) => "row {} hasn't started",
+        Some(Life::Running) => "row {} has started already",
+        Some(Life::Ended) => "row {} has ended already",
+    }
+}
+
 // Reports which row is in the way of a start, over which cown.
-fn put_start(said: &mut Said, run: &Judge, row: u32) -> Result<(), AllocError> {
-    match life_of(run, row) {
-        None => return said.about("row {} is not spawned yet", &[number(row)]),
-        Some(Life::Running) => return said.about("row {} has started already", &[number(row)]),
-        Some(Life::Ended) => return said.about("row {} has ended already", &[number(row)]),
-        Some(Life::Pending) => {}
+fn put_start(said: &mut Said, run: &Judge, row: u32) -> Told {
+    let life = life_of(run, row);
+    if life != Some(Life::Pending) {
+        return said.about(life_words(life), &[number(row)]);
     }
     for other in 0..row_count(run) {
         let life = life_of(run, other);
@@ -155,18 +155,10 @@ fn common_cown(run: &Judge, row: u32, other: u32) -> Option<u32> {
 }
 
 // Reports why a row can't end so.
-fn put_end(
-    said: &mut Said,
-    run: &Judge,
-    row: u32,
-    ticks: u32,
-    written: &[u32],
-) -> Result<(), AllocError> {
-    match life_of(run, row) {
-        None => return said.about("row {} is not spawned yet", &[number(row)]),
-        Some(Life::Pending) => return said.about("row {} hasn't started", &[number(row)]),
-        Some(Life::Ended) => return said.about("row {} has ended already", &[number(row)]),
-        Some(Life::Running) => {}
+fn put_end(said: &mut Said, run: &Judge, row: u32, ticks: u32, written: &[u32]) -> Told {
+    let life = life_of(run, row);
+    if life != Some(Life::Running) {
+        return said.about(life_words(life), &[number(row)]);
     }
     if ticks > MOST_TICKS {
         said.about("{} ticks; a row takes at most 1000000", &[number(ticks)])?;

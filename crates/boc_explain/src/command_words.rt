@@ -7,7 +7,7 @@ use crate::formed::{are_digits, put_no_number};
 use boc_program::limits::MOST_PART;
 use boc_said::place::pair_words;
 use boc_said::said::Part::{Bytes, Quote, Words};
-use boc_said::said::Said;
+use boc_said::said::{Said, Told};
 use boc_text::read_number;
 use std::alloc::{AllocError, Global};
 use strsim::osa_distance;
@@ -79,13 +79,13 @@ pub fn explain_words(
     let mut said = Said::new(alloc);
     let told = told.as_bytes();
     if let Some(word) = no_command(words, told) {
-        put_nearest(alloc, &mut said, commands, word)?;
+        put_nearest(&mut said, commands, word)?;
     } else {
         let command: &[u8] = match words {
             [_, command, ..] => command.as_bytes(),
             _ => b"",
         };
-        let is_told = put_files(alloc, &mut said, words, command, told)?;
+        let is_told = put_files(&mut said, words, command, told)?;
         if !is_told {
             put_option(&mut said, command, told)?;
         }
@@ -107,17 +107,12 @@ fn no_command<'w>(words: &'w [String], told: &[u8]) -> Option<&'w str> {
 }
 
 // Reports which of these commands a word is near to, if there is one.
-fn put_nearest(
-    alloc: Global,
-    said: &mut Said,
-    commands: &[&str],
-    word: &str,
-) -> Result<(), AllocError> {
+fn put_nearest(said: &mut Said, commands: &[&str], word: &str) -> Told {
     let most = (word.len() / BYTES_PER_EDIT).clamp(1, MOST_EDITS);
     let mut least = most.saturating_add(1);
     let mut nearest = None;
     for command in commands {
-        let edits = osa_distance(alloc, word, command)?;
+        let edits = osa_distance(said.alloc, word, command)?;
         if edits < least {
             least = edits;
             nearest = Some(*command);
@@ -131,14 +126,13 @@ fn put_nearest(
 
 // Reports that two words name files where this text refuses them for that, and answers whether that is so.
 fn put_files(
-    alloc: Global,
     said: &mut Said,
     words: &[String],
     command: &[u8],
     told: &[u8],
 ) -> Result<bool, AllocError> {
-    let mut files: Vec<&[u8]> = Vec::new(alloc);
-    for word in operands(alloc, words)? {
+    let mut files: Vec<&[u8]> = Vec::new(said.alloc);
+    for word in operands(said.alloc, words)? {
         if command != WHATIF || !is_edit(word) {
             files.push(word)?;
         }
@@ -167,19 +161,14 @@ fn put_files(
 }
 
 // Reports by which option a command takes the program or the record, where this text refuses that of other commands.
-fn put_option(said: &mut Said, command: &[u8], told: &[u8]) -> Result<(), AllocError> {
-    let (option, words): (&[u8], _) = if OF_PROGRAMS.contains(&command) {
-        (b"--program'", pair_words(false))
-    } else if OF_RECORDS.contains(&command) {
-        (b"--record'", pair_words(true))
-    } else {
-        return Ok(());
-    };
+fn put_option(said: &mut Said, command: &[u8], told: &[u8]) -> Told {
     let refused = told.strip_prefix(UNEXPECTED).unwrap_or(b"");
-    if !refused.starts_with(option) {
+    let of_program = refused.starts_with(b"--program'") && OF_PROGRAMS.contains(&command);
+    let of_record = refused.starts_with(b"--record'") && OF_RECORDS.contains(&command);
+    if !of_program && !of_record {
         return Ok(());
     }
-    let (reads, takes) = words;
+    let [reads, takes] = pair_words(of_record);
     let parts = [Bytes(command), Words(reads), Bytes(command), Words(takes)];
     said.tell("{}{}boc {}", &parts)
 }
@@ -223,7 +212,7 @@ fn around(word: &[u8], sign: u8) -> Option<(&[u8], &[u8])> {
 }
 
 // Reports why a word is no edit.
-fn put_no_edit(said: &mut Said, word: &[u8]) -> Result<(), AllocError> {
+fn put_no_edit(said: &mut Said, word: &[u8]) -> Told {
     let is_change = word.contains(&b'=');
     let sign = if is_change { b'=' } else { b'@' };
     let (subject, change) = around(word, sign).unwrap_or((word, b""));
@@ -248,11 +237,7 @@ fn put_no_edit(said: &mut Said, word: &[u8]) -> Result<(), AllocError> {
 }
 
 // Reports why a word is no edit that has no part after the `=`.
-fn put_no_change<'a>(
-    said: &mut Said,
-    subject: &'a [u8],
-    change: &'a [u8],
-) -> Result<(), AllocError> {
+fn put_no_change<'a>(said: &mut Said, subject: &'a [u8], change: &'a [u8]) -> Told {
     let is_row = are_digits(subject);
     if is_row && are_digits(change) {
         let is_large = !change.starts_with(b"0") && read_number(change).is_none();
@@ -289,7 +274,7 @@ fn first_unread<'a>(first: &'a [u8], second: &'a [u8]) -> &'a [u8] {
 }
 
 // Reports why a word is no edit that has two texts round a `/`.
-fn put_no_part(said: &mut Said, part: [&[u8]; 2], subject: &[u8]) -> Result<(), AllocError> {
+fn put_no_part(said: &mut Said, part: [&[u8]; 2], subject: &[u8]) -> Told {
     for number in &part {
         match read_number(number) {
             None if number.is_empty() => {

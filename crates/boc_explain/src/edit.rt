@@ -14,7 +14,7 @@ use boc_record::read_rows;
 use boc_runs::rows::Row;
 use boc_said::place::Text;
 use boc_said::said::Part::{Many, Number, Words};
-use boc_said::said::Said;
+use boc_said::said::{Said, Told};
 use boc_text::Bytes;
 use boc_whatif::WhatIf;
 use std::alloc::{AllocError, Global};
@@ -48,19 +48,14 @@ pub fn explain_edit(
         for asked in edits {
             put_edits(&mut made, &names, asked)?;
         }
-        put_unfit(alloc, &mut said, text.bytes, &made, fault)?;
+        put_unfit(&mut said, text.bytes, &made, fault)?;
     }
     said.into_text(None)
 }
 
 // Reports why the rows of a record can't take the first of these edits that they can't.
-fn put_unfit(
-    alloc: Global,
-    said: &mut Said,
-    text: &[u8],
-    edits: &[Edit],
-    fault: EditFault,
-) -> Result<(), AllocError> {
+fn put_unfit(said: &mut Said, text: &[u8], edits: &[Edit], fault: EditFault) -> Told {
+    let alloc = said.alloc;
     let mut source = Bytes::new(Vec::from_slice(alloc, text)?);
     let Ok(rows) = read_rows(alloc, &mut source) else {
         return Ok(());
@@ -97,7 +92,7 @@ fn names_for(
 }
 
 // Appends the edits of rows that an edit is, the rows called so.
-fn put_edits(edits: &mut Vec<Edit>, names: &Names, asked: &Asked) -> Result<(), AllocError> {
+fn put_edits(edits: &mut Vec<Edit>, names: &Names, asked: &Asked) -> Told {
     match asked {
         Asked::Row(edit) => edits.push(*edit)?,
         Asked::Def { name, part } => {
@@ -115,12 +110,7 @@ fn put_edits(edits: &mut Vec<Edit>, names: &Names, asked: &Asked) -> Result<(), 
 }
 
 // Reports why rows can't take an edit.
-fn put_refused(
-    said: &mut Said,
-    rows: &[Row],
-    edit: Edit,
-    fault: EditFault,
-) -> Result<(), AllocError> {
+fn put_refused(said: &mut Said, rows: &[Row], edit: Edit, fault: EditFault) -> Told {
     match fault {
         EditFault::NoRow => {
             let last = (rows.len() as u64).saturating_sub(1);
@@ -134,7 +124,7 @@ fn put_refused(
 }
 
 // Reports how many ticks a row would take.
-fn put_many(said: &mut Said, rows: &[Row], edit: Edit) -> Result<(), AllocError> {
+fn put_many(said: &mut Said, rows: &[Row], edit: Edit) -> Told {
     let (Change::Cost(_), Some(row)) = (edit.change, rows.get(edit.row as usize)) else {
         return said.about("a row takes at most 1000000 ticks", &[]);
     };
@@ -145,7 +135,7 @@ fn put_many(said: &mut Said, rows: &[Row], edit: Edit) -> Result<(), AllocError>
 }
 
 // Reports the least ticks that a row can take.
-fn put_below(said: &mut Said, rows: &[Row], row: u32) -> Result<(), AllocError> {
+fn put_below(said: &mut Said, rows: &[Row], row: u32) -> Told {
     let Some((child, tick)) = last_child(rows, row) else {
         return said.about("a row takes at least 1 tick", &[]);
     };
@@ -157,7 +147,7 @@ fn put_below(said: &mut Said, rows: &[Row], row: u32) -> Result<(), AllocError> 
 }
 
 // Reports between which ticks of its parent a row can be spawned.
-fn put_between(said: &mut Said, rows: &[Row], place: u32) -> Result<(), AllocError> {
+fn put_between(said: &mut Said, rows: &[Row], place: u32) -> Told {
     let (before, others) = rows.split_at(rows.len().min(place as usize));
     let Some((row, behind)) = others.split_first() else {
         return Ok(());

@@ -3,7 +3,7 @@
 use crate::limits::{COARSER_TICKS, FEWER_COWNS};
 use boc_program::limits::{MOST_COWNS, MOST_HELD};
 use boc_said::said::Part::{Hex, Many, Number, Quote, Words};
-use boc_said::said::{Part, Said};
+use boc_said::said::{Part, Said, Told};
 use boc_text::{MOST_LINE, read_number};
 use std::alloc::AllocError;
 
@@ -55,7 +55,7 @@ pub(crate) fn column_of(line: &[u8], field: usize) -> usize {
 }
 
 /// Reports what is wrong with a first line.
-pub(crate) fn put_header(said: &mut Said, line: &[u8]) -> Result<(), AllocError> {
+pub(crate) fn put_header(said: &mut Said, line: &[u8]) -> Told {
     if put_common(said, line, OF_RECORDS)? {
         return Ok(());
     }
@@ -85,7 +85,7 @@ pub(crate) fn put_header(said: &mut Said, line: &[u8]) -> Result<(), AllocError>
 }
 
 /// Reports what is wrong with another line; in the first version of records an end has no cowns.
-pub(crate) fn put_form(said: &mut Said, line: &[u8], is_first: bool) -> Result<(), AllocError> {
+pub(crate) fn put_form(said: &mut Said, line: &[u8], is_first: bool) -> Told {
     if put_many_cowns(said, line, is_first)? || put_common(said, line, OF_RECORDS)? {
         return Ok(());
     }
@@ -140,13 +140,7 @@ fn put_many_cowns(said: &mut Said, line: &[u8], is_first: bool) -> Result<bool, 
 }
 
 // Reports what is wrong with the fields of a line.
-fn put_fields(
-    said: &mut Said,
-    line: &[u8],
-    sign: u8,
-    fields: &[u8],
-    is_first: bool,
-) -> Result<(), AllocError> {
+fn put_fields(said: &mut Said, line: &[u8], sign: u8, fields: &[u8], is_first: bool) -> Told {
     let mut count: usize = 0;
     let mut third = 0;
     for field in fields.split(is_space) {
@@ -177,7 +171,7 @@ fn put_fields(
 }
 
 // Reports what is wrong with a field that is no number.
-fn put_field(said: &mut Said, field: &[u8], is_of_ticks: bool) -> Result<(), AllocError> {
+fn put_field(said: &mut Said, field: &[u8], is_of_ticks: bool) -> Told {
     if field.is_empty() {
         return said.about("two spaces; fields are separated by one", &[]);
     }
@@ -194,7 +188,7 @@ fn is_too_large(word: &[u8]) -> bool {
 }
 
 /// Reports why a word of a line is no number.
-pub(crate) fn put_no_number(said: &mut Said, word: &[u8]) -> Result<(), AllocError> {
+pub(crate) fn put_no_number(said: &mut Said, word: &[u8]) -> Told {
     let behind = word.strip_prefix(b"-").unwrap_or(word);
     let reason = if behind.len() < word.len() && is_too_large(behind) {
         " is negative; numbers are plain decimals"

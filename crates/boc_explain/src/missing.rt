@@ -8,16 +8,9 @@ use boc_names::Names;
 use boc_reader::read_listed;
 use boc_said::place::Text;
 use boc_said::said::Part::{Bytes, Number, Quote, Words};
-use boc_said::said::{MOST_QUOTE, Said};
+use boc_said::said::{MOST_QUOTE, Said, Told};
 use boc_text::read_number;
 use std::alloc::{AllocError, Global};
-
-// What is named.
-#[derive(Clone, Copy, PartialEq, Eq)]
-enum Kind {
-    Cown,
-    Def,
-}
 
 // The cowns or the defs that a text names, and the words round them: that there are none, those before them, and those after them.
 #[derive(Drop)]
@@ -39,11 +32,13 @@ pub fn explain_cown(
     let name = name.as_bytes();
     let is_number = read_number(name).is_some();
     let naming = if is_number { Naming::Numbers } else { naming };
-    match (
-        known_in(alloc, text, naming, Kind::Cown)?,
-        record_cowns(text.bytes),
-    ) {
-        (Some(known), _) => put_missing(alloc, &mut said, "no cown is called ", name, known)?,
+    let known = match naming {
+        Naming::Program(program) => cowns_of(alloc, program)?,
+        Naming::Names(file) => named_in(alloc, text, file, false)?,
+        Naming::Numbers => None,
+    };
+    match (known, record_cowns(text.bytes)) {
+        (Some(known), _) => put_missing(&mut said, "no cown is called ", name, known)?,
         (None, Some(0)) => {
             said.set_subject(name)?;
             said.about("the record has no cowns", &[])?;
@@ -68,30 +63,21 @@ pub fn explain_def(
 {
     let mut said = Said::new(alloc);
     let name = name.as_bytes();
-    if let Naming::Numbers = naming {
-        said.tell(
-            "no row belongs to a def {}; without either file each row is a def of its own, such as `row 0`",
-            &[Quote(name)],
-        )?;
-    } else if let Some(known) = known_in(alloc, text, naming, Kind::Def)? {
-        put_missing(alloc, &mut said, "no row belongs to a def ", name, known)?;
+    let known = match naming {
+        Naming::Numbers => {
+            said.tell(
+                "no row belongs to a def {}; without either file each row is a def of its own, such as `row 0`",
+                &[Quote(name)],
+            )?;
+            None
+        }
+        Naming::Program(program) => defs_of(alloc, program)?,
+        Naming::Names(file) => named_in(alloc, text, file, true)?,
+    };
+    if let Some(known) = known {
+        put_missing(&mut said, "no row belongs to a def ", name, known)?;
     }
     said.into_text(None)
-}
-
-// The cowns or the defs that a program or a file of names names, if that is known.
-fn known_in(
-    alloc: Global,
-    text: Text<'_>,
-    naming: Naming<'_>,
-    kind: Kind,
-) -> Result<Option<Known>, AllocError> {
-    match naming {
-        Naming::Program(program) if kind == Kind::Def => defs_of(alloc, program),
-        Naming::Program(program) => cowns_of(alloc, program),
-        Naming::Names(file) if text.whole => named_in(alloc, text.bytes, file, kind),
-        _ => Ok(None),
-    }
 }
 
 fn defs_of(alloc: Global, program: &[u8]) -> Result<Option<Known>, AllocError> {
@@ -119,21 +105,22 @@ fn cowns_of(alloc: Global, program: &[u8]) -> Result<Option<Known>, AllocError> 
         }
         names.push(name)?;
     }
-    let words = [
-        "; the program has no cowns",
-        "; the program's cowns are ",
-        "",
-    ];
+    let none = "; the program has no cowns";
+    let words = [none, "; the program's cowns are ", ""];
     Ok(Some(Known { names, words }))
 }
 
+// The defs or the cowns of a record that a file names, if that is known.
 fn named_in(
     alloc: Global,
-    text: &[u8],
+    text: Text<'_>,
     file: &[u8],
-    kind: Kind,
+    is_of_defs: bool,
 ) -> Result<Option<Known>, AllocError> {
-    let Some(called) = names_by_file(alloc, text, Some(file))? else {
+    if !text.whole {
+        return Ok(None);
+    }
+    let Some(called) = names_by_file(alloc, text.bytes, Some(file))? else {
         return Ok(None);
     };
     let Names {
@@ -141,17 +128,16 @@ fn named_in(
         family_names,
         ..
     } = called;
-    let (all, none, some) = match kind {
-        Kind::Def => (
+    let (all, words) = if is_of_defs {
+        (
             def_names,
-            "; the file names no row",
-            "; the file's defs are ",
-        ),
-        Kind::Cown => (
+            ["; the file names no row", "; the file's defs are ", ""],
+        )
+    } else {
+        (
             family_names,
-            "; the file names no cown",
-            "; the file's cowns are ",
-        ),
+            ["; the file names no cown", "; the file's cowns are ", ""],
+        )
     };
     let mut names = Vec::new(alloc);
     for name in all {
@@ -160,27 +146,18 @@ fn named_in(
             names.push(name)?;
         }
     }
-    let words = [none, some, ""];
     Ok(Some(Known { names, words }))
 }
 
 // Reports that none is called so, and which there are.
-fn put_missing(
-    alloc: Global,
-    said: &mut Said,
-    begin: &str,
-    name: &[u8],
-    known: Known,
-) -> Result<(), AllocError> {
-    let list = listed(alloc, &known.names, name)?;
+fn put_missing(said: &mut Said, begin: &str, name: &[u8], known: Known) -> Told {
+    let list = listed(said.alloc, &known.names, name)?;
     let [none, some, behind] = known.words;
     if known.names.is_empty() {
         return said.tell(begin, &[Quote(name), Words(none)]);
     }
-    said.tell(
-        begin,
-        &[Quote(name), Words(some), Bytes(&list), Words(behind)],
-    )
+    let parts = [Quote(name), Words(some), Bytes(&list), Words(behind)];
+    said.tell(begin, &parts)
 }
 
 // How many names are reported at most.

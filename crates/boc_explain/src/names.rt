@@ -18,7 +18,7 @@ use boc_record::read_record;
 use boc_registers::compiled::CompiledProgram;
 use boc_said::place::{Text, is_first_word, looks_like_record};
 use boc_said::said::Part::{Number, Quote, Words};
-use boc_said::said::Said;
+use boc_said::said::{Said, Told};
 use boc_text::{Bytes, MOST_LINE, read_number};
 use std::alloc::{AllocError, Global};
 
@@ -52,19 +52,18 @@ pub fn explain_names(
             said.set_column(column_of(line, 1));
         }
         said.set_subject(line)?;
-        put_fault(alloc, &mut said, text, input, line, fault)?;
+        put_fault(&mut said, text, input, line, fault)?;
     }
     said.into_text(text.name)
 }
 
 fn put_fault(
-    alloc: Global,
     said: &mut Said,
     text: Text<'_>,
     input: Text<'_>,
     line: &[u8],
     fault: NamesFault,
-) -> Result<(), AllocError> {
+) -> Told {
     let is_formless = matches!(fault.kind, NamesFaultKind::TooLong | NamesFaultKind::Form);
     if is_formless && looks_like_record(text.bytes) {
         return put_other_text(said, "record");
@@ -79,15 +78,15 @@ fn put_fault(
         }
         NamesFaultKind::TooLong => said.about("a names file has at most 8 MiB", &[]),
         NamesFaultKind::Form => put_form(said, line),
-        NamesFaultKind::NoRow => put_no_row(alloc, said, input),
-        NamesFaultKind::NoCown => put_no_cown(alloc, said, input),
+        NamesFaultKind::NoRow => put_no_row(said, input),
+        NamesFaultKind::NoCown => put_no_cown(said, input),
         NamesFaultKind::Twice => put_twice(said, text.bytes, line, fault.line),
         NamesFaultKind::Memory => Ok(()),
     }
 }
 
 // Reports that another text is where names are wanted.
-fn put_other_text(said: &mut Said, found: &str) -> Result<(), AllocError> {
+fn put_other_text(said: &mut Said, found: &str) -> Told {
     said.tell(
         "this looks like a {}; --names takes lines `@ COWN NAME` and `= ROW NAME [ARG ..]`",
         &[Words(found)],
@@ -105,7 +104,7 @@ fn is_of_program(text: &[u8]) -> bool {
 }
 
 // Reports what is wrong with a line that has none of the forms.
-fn put_form(said: &mut Said, line: &[u8]) -> Result<(), AllocError> {
+fn put_form(said: &mut Said, line: &[u8]) -> Told {
     if put_common(said, line, "names and arguments are")? {
         return Ok(());
     }
@@ -119,7 +118,7 @@ fn put_form(said: &mut Said, line: &[u8]) -> Result<(), AllocError> {
 }
 
 // Reports what is wrong with the fields of a line.
-fn put_fields(said: &mut Said, line: &[u8], sign: u8, fields: &[u8]) -> Result<(), AllocError> {
+fn put_fields(said: &mut Said, line: &[u8], sign: u8, fields: &[u8]) -> Told {
     let mut count: u64 = 0;
     for field in fields.split(is_space) {
         if field.is_empty() {
@@ -140,11 +139,11 @@ fn put_fields(said: &mut Said, line: &[u8], sign: u8, fields: &[u8]) -> Result<(
 }
 
 // Reports which rows there are. How many a program has is known only as it runs.
-fn put_no_row(alloc: Global, said: &mut Said, input: Text<'_>) -> Result<(), AllocError> {
+fn put_no_row(said: &mut Said, input: Text<'_>) -> Told {
     if !looks_like_record(input.bytes) || !input.whole {
         return said.about("the run has no row with this number", &[]);
     }
-    let count = run_before(alloc, input.bytes, u64::MAX)?.count() as u64;
+    let count = run_before(said.alloc, input.bytes, u64::MAX)?.count() as u64;
     said.about(
         "the record has rows 0 to ",
         &[Number(count.saturating_sub(1))],
@@ -152,10 +151,10 @@ fn put_no_row(alloc: Global, said: &mut Said, input: Text<'_>) -> Result<(), All
 }
 
 // Reports which cowns there are.
-fn put_no_cown(alloc: Global, said: &mut Said, input: Text<'_>) -> Result<(), AllocError> {
+fn put_no_cown(said: &mut Said, input: Text<'_>) -> Told {
     let known = match record_cowns(input.bytes) {
         Some(count) => Some(u64::from(count)),
-        None => program_cowns(alloc, input.bytes)?,
+        None => program_cowns(said.alloc, input.bytes)?,
     };
     match known {
         None => Ok(()),
@@ -200,7 +199,7 @@ fn thing_of(line: &[u8]) -> Option<(u8, u32)> {
 }
 
 // Reports which line before this one names the same.
-fn put_twice(said: &mut Said, text: &[u8], line: &[u8], number: u64) -> Result<(), AllocError> {
+fn put_twice(said: &mut Said, text: &[u8], line: &[u8], number: u64) -> Told {
     let thing = thing_of(line);
     let mut counted: u64 = 0;
     for other in text.split(is_feed) {

@@ -10,11 +10,11 @@ use crate::run::{Life, life_of, line_at, row_count, run_before};
 use boc_record::{RecordFault, RecordFaultKind};
 use boc_rules::Judge;
 use boc_said::place::{
-    Beside, Place, Text, looks_like_names, looks_like_program, looks_like_record, put_names_file,
-    put_nothing, put_pair,
+    Beside, Place, Text, looks_like_names, looks_like_program, put_names_file, put_nothing,
+    put_pair,
 };
 use boc_said::said::Part::{Many, Words};
-use boc_said::said::Said;
+use boc_said::said::{Said, Told};
 use std::alloc::{AllocError, Global};
 
 /// Returns what is reported of the text of a record after the line of its fault. There is nothing to report where that line wasn't kept.
@@ -35,21 +35,20 @@ pub fn explain_record(
     } else if fault.line == 1 && looks_like_program(text.bytes) {
         put_program(&mut said, place)?;
     } else if let Some(line) = line_at(text, fault.line) {
-        put_fault(alloc, &mut said, text.bytes, line, fault)?;
+        put_fault(&mut said, text.bytes, line, fault)?;
     }
     said.into_text(text.name)
 }
 
 // Reports that a program is where a record is wanted. After `--record` the input was taken, so it is the program.
-fn put_program(said: &mut Said, place: Place<'_>) -> Result<(), AllocError> {
+fn put_program(said: &mut Said, place: Place<'_>) -> Told {
     if place.is_beside && place.beside == Some(Beside::Record) {
         return said.words(
             "this looks like a program; --record takes a record: boc run FILE > RECORD",
         );
     }
     if place.is_of_pair() {
-        let swapped = looks_like_record(place.other);
-        return put_pair(said, place, "program", "record", swapped);
+        return put_pair(said, place, false);
     }
     let is_whatif = place.command.as_bytes() == b"whatif".as_slice();
     let file = if is_whatif { " --program FILE" } else { "" };
@@ -64,13 +63,7 @@ pub(crate) fn is_first_version(text: &[u8]) -> bool {
     text.starts_with(b"boc 1")
 }
 
-fn put_fault(
-    alloc: Global,
-    said: &mut Said,
-    text: &[u8],
-    line: &[u8],
-    fault: RecordFault,
-) -> Result<(), AllocError> {
+fn put_fault(said: &mut Said, text: &[u8], line: &[u8], fault: RecordFault) -> Told {
     said.set_subject(line)?;
     match fault.kind {
         RecordFaultKind::Header => put_header(said, line),
@@ -83,41 +76,34 @@ fn put_fault(
             };
             said.about(reason, &[])
         }
-        RecordFaultKind::Unended => put_left(said, &run_before(alloc, text, fault.line)?),
+        RecordFaultKind::Unended => put_left(said, text, fault.line),
         RecordFaultKind::Truncated => {
             if line.is_empty() {
                 said.words("the record ends before the line `.`")?;
             } else {
                 said.about("the record ends within this line", &[])?;
             }
-            put_left(said, &run_before(alloc, text, fault.line)?)
+            put_left(said, text, fault.line)
         }
         RecordFaultKind::Memory | RecordFaultKind::Device => Ok(()),
-        _ => put_broken(alloc, said, text, line, fault),
+        _ => put_broken(said, text, line, fault),
     }
 }
 
-// Reports what a run has left undone.
-fn put_left(said: &mut Said, run: &Judge) -> Result<(), AllocError> {
+// Reports what the run of the lines before this one has left undone.
+fn put_left(said: &mut Said, text: &[u8], line: u64) -> Told {
+    let run = run_before(said.alloc, text, line)?;
     if run.count() == 0 {
         return said.words("no row was spawned yet");
     }
-    put_rows(
-        said,
-        run,
-        Life::Pending,
-        "{} not started, the first is row ",
-    )?;
-    put_rows(
-        said,
-        run,
-        Life::Running,
-        "{} started and not ended, the first is row ",
-    )
+    let words = "{} not started, the first is row ";
+    put_rows(said, &run, Life::Pending, words)?;
+    let words = "{} started and not ended, the first is row ";
+    put_rows(said, &run, Life::Running, words)
 }
 
 // Reports how many rows have come so far, and which is the first of them.
-fn put_rows(said: &mut Said, run: &Judge, life: Life, words: &str) -> Result<(), AllocError> {
+fn put_rows(said: &mut Said, run: &Judge, life: Life, words: &str) -> Told {
     let mut count: u64 = 0;
     let mut first = None;
     for row in 0..row_count(run) {

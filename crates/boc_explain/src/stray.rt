@@ -21,7 +21,7 @@ use boc_runs::event::Event;
 use boc_runs::record::Record;
 use boc_said::place::Text;
 use boc_said::said::Part::{Bytes as Shown, Many, Quote, Words};
-use boc_said::said::Said;
+use boc_said::said::{Said, Told};
 use boc_text::{Bytes, put_number};
 use std::alloc::{AllocError, Global};
 
@@ -38,23 +38,17 @@ pub fn explain_stray(
     if let Some(line) = line_at(text, fault.line) {
         said.set_place(fault.line, 1);
         said.set_subject(line)?;
-        put_stray(alloc, &mut said, text, program, fault)?;
+        put_stray(&mut said, text, program, fault)?;
     }
     said.into_text(text.name)
 }
 
-fn put_stray(
-    alloc: Global,
-    said: &mut Said,
-    text: Text<'_>,
-    program: Text<'_>,
-    fault: StrayFault,
-) -> Result<(), AllocError> {
+fn put_stray(said: &mut Said, text: Text<'_>, program: Text<'_>, fault: StrayFault) -> Told {
     if fault.kind == StrayFaultKind::Memory {
         return Ok(());
     }
     if fault.kind == StrayFaultKind::OtherCowns {
-        return match program_cowns(alloc, program.bytes)? {
+        return match program_cowns(said.alloc, program.bytes)? {
             Some(count) => said.about("the program has ", &[Many(count, "cown")]),
             None => Ok(()),
         };
@@ -62,7 +56,7 @@ fn put_stray(
     // The first line is no event, and lines are counted from 1.
     let place = fault.line.saturating_sub(2) as usize;
     let is_known = text.whole && program.whole;
-    if is_known && put_at(alloc, said, text.bytes, program.bytes, place)? {
+    if is_known && put_at(said, text.bytes, program.bytes, place)? {
         return Ok(());
     }
     let is_spawn = fault.kind == StrayFaultKind::NotNextSpawn;
@@ -75,13 +69,8 @@ fn put_stray(
 }
 
 // Reports what a program does instead of the event at this place of the record with this text, which diverges from it there. Answers whether that is known.
-fn put_at(
-    alloc: Global,
-    said: &mut Said,
-    text: &[u8],
-    program: &[u8],
-    place: usize,
-) -> Result<bool, AllocError> {
+fn put_at(said: &mut Said, text: &[u8], program: &[u8], place: usize) -> Result<bool, AllocError> {
+    let alloc = said.alloc;
     let Ok((program, listings)) = read_listed(alloc, program) else {
         return Ok(false);
     };
@@ -91,10 +80,17 @@ fn put_at(
     let defs = def_names(alloc, &called(alloc, listings)?)?;
     let compiled = CompiledProgram::new(alloc, &program)?;
     let mut run = Follower::new(alloc, &compiled)?;
-    match event_at(&mut run, &record, place)? {
-        Some(event) => put_event(alloc, said, &run, &defs, &event, is_first_version(text)),
-        None => Ok(false),
-    }
+    let Some(event) = event_at(&mut run, &record, place)? else {
+        return Ok(false);
+    };
+    let Some(next) = next_of(&run, row_of(&event)) else {
+        return Ok(false);
+    };
+    let is_first = is_first_version(text);
+    put_next(said, &next, &event, is_first)?;
+    put_names(said, &run, &defs, &event)?;
+    put_differences(said, &next, &event, is_first)?;
+    Ok(true)
 }
 
 // The event at a place of a record, once the events before it are taken.
@@ -117,26 +113,12 @@ fn event_at(
     Ok(Some(events.get(place)))
 }
 
-// Reports what a row of a run does instead of an event of it. Answers whether that is known.
-fn put_event(
-    alloc: Global,
-    said: &mut Said,
-    run: &Follower<'_>,
-    defs: &[Vec<u8>],
-    event: &Event,
-    is_first: bool,
-) -> Result<bool, AllocError> {
-    let row = match event {
+// The row of an event: that which spawns, starts or ends.
+fn row_of(event: &Event) -> u32 {
+    match event {
         Event::Spawn { parent, .. } => *parent,
         Event::Start { row } | Event::End { row, .. } => *row,
-    };
-    let Some(next) = next_of(run, row) else {
-        return Ok(false);
-    };
-    put_next(alloc, said, row, &next, event, is_first)?;
-    put_names(alloc, said, row, run, defs, event)?;
-    put_differences(alloc, said, &next, event, is_first)?;
-    Ok(true)
+    }
 }
 
 // The event by which a row of a run goes on, if it runs.
@@ -163,14 +145,7 @@ fn write_others(next: &Event, event: &Event) -> bool {
 }
 
 // Reports the line of a record that has what a row does next. In the first version ends have no cowns.
-fn put_next(
-    alloc: Global,
-    said: &mut Said,
-    row: u32,
-    next: &Event,
-    event: &Event,
-    is_first: bool,
-) -> Result<(), AllocError> {
+fn put_next(said: &mut Said, next: &Event, event: &Event, is_first: bool) -> Told {
     let is_untold = is_first && write_others(next, event);
     let mut told = next.duplicate();
     if is_first
@@ -179,7 +154,7 @@ fn put_next(
     {
         *written = Cowns::new();
     }
-    let mut line = Vec::new(alloc);
+    let mut line = Vec::new(said.alloc);
     put_line(&mut line, &told)?;
     let _feed = line.pop();
     let words = if is_untold {
@@ -187,18 +162,13 @@ fn put_next(
     } else {
         "in the program row {} continues with "
     };
-    said.about(words, &[number(row), Quote(&line)])
+    said.about(words, &[number(row_of(event)), Quote(&line)])
 }
 
-// Reports what a row is called, and what it does next instead of an event.
-fn put_names(
-    alloc: Global,
-    said: &mut Said,
-    row: u32,
-    run: &Follower<'_>,
-    defs: &[Vec<u8>],
-    event: &Event,
-) -> Result<(), AllocError> {
+// Reports what the row of an event is called, and what it does next instead.
+fn put_names(said: &mut Said, run: &Follower<'_>, defs: &[Vec<u8>], event: &Event) -> Told {
+    let alloc = said.alloc;
+    let row = row_of(event);
     let declared = run.program().cowns.as_slice();
     if declared.len() > MOST_COWNS {
         return Ok(());
@@ -215,10 +185,8 @@ fn put_names(
         } else {
             ""
         };
-        return said.tell(
-            "row {} is {}, and ends",
-            &[number(row), Quote(&name), Words(end)],
-        );
+        let parts = [number(row), Quote(&name), Words(end)];
+        return said.tell("row {} is {}, and ends", &parts);
     };
     let spawned = behaviour_text(alloc, defs, &cowns, &Instance::of(wish))?;
     let words = if is_spawn {
@@ -230,13 +198,7 @@ fn put_names(
 }
 
 // Reports in what the event that a program has and that of the record differ, where both are of one kind.
-fn put_differences(
-    alloc: Global,
-    said: &mut Said,
-    next: &Event,
-    event: &Event,
-    is_first: bool,
-) -> Result<(), AllocError> {
+fn put_differences(said: &mut Said, next: &Event, event: &Event, is_first: bool) -> Told {
     if let Event::Spawn { offset, cowns, .. } = next
         && let Event::Spawn {
             offset: told,
@@ -245,7 +207,7 @@ fn put_differences(
         } = event
     {
         put_numbers(said, "it spawns it at its tick ", *offset, *told)?;
-        put_cowns(alloc, said, "it spawns it over ", cowns, held)?;
+        put_cowns(said, "it spawns it over ", cowns, held)?;
     }
     if let Event::End {
         ticks,
@@ -263,17 +225,17 @@ fn put_differences(
         put_numbers(said, "its ticks are ", *ticks, *told)?;
         put_numbers(said, "its status is ", *status as u32, *other as u32)?;
         if is_first && write_others(next, event) {
-            let written = cowns_text(alloc, written)?;
+            let written = cowns_text(said.alloc, written)?;
             let words = "it writes {}, and in version 1 a record says that it writes all its cowns";
             return said.tell(words, &[Shown(&written)]);
         }
-        put_cowns(alloc, said, "it writes ", written, noted)?;
+        put_cowns(said, "it writes ", written, noted)?;
     }
     Ok(())
 }
 
 // Reports two numbers, where they differ: the program's, and the record's.
-fn put_numbers(said: &mut Said, words: &str, is: u32, told: u32) -> Result<(), AllocError> {
+fn put_numbers(said: &mut Said, words: &str, is: u32, told: u32) -> Told {
     if is == told {
         return Ok(());
     }
@@ -282,17 +244,14 @@ fn put_numbers(said: &mut Said, words: &str, is: u32, told: u32) -> Result<(), A
 }
 
 // Reports two lists of cowns, where they differ: the program's, and the record's.
-fn put_cowns(
-    alloc: Global,
-    said: &mut Said,
-    words: &str,
-    cowns: &[CownNo],
-    told: &[CownNo],
-) -> Result<(), AllocError> {
+fn put_cowns(said: &mut Said, words: &str, cowns: &[CownNo], told: &[CownNo]) -> Told {
     if cowns == told {
         return Ok(());
     }
-    let (cowns, told) = (cowns_text(alloc, cowns)?, cowns_text(alloc, told)?);
+    let (cowns, told) = (
+        cowns_text(said.alloc, cowns)?,
+        cowns_text(said.alloc, told)?,
+    );
     let parts = [Words(words), Shown(&cowns), Shown(&told)];
     said.tell("{}{}, and the record has ", &parts)
 }

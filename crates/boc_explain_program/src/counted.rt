@@ -1,42 +1,40 @@
 // Other numbers of arguments, cowns and indices than are asked for, and more of something than there may be.
 
-use crate::named::other_of;
-use crate::spot::{Lines, Spot};
+use crate::declared::{Thing, count_taken, declarations, other_of};
+use crate::spot::{Spot, Word};
 use boc_program::limits::MOST_ARGUMENTS;
-use boc_said::declared::Thing;
-use boc_said::said::Part;
-use boc_said::tokens::Word;
-use std::alloc::AllocError;
+use boc_said::said::{Part, Said, Told};
 
 /// Writes what a def takes and what it is given, or whether a cown takes an index.
-pub(crate) fn put_wrong_count(lines: &mut Lines, spot: Spot<'_>) -> Result<(), AllocError> {
-    let Some(other) = other_of(lines.alloc, spot, true)? else {
+pub(crate) fn put_wrong_count(said: &mut Said, spot: Spot<'_>) -> Told {
+    let declared = declarations(said.alloc, spot.words)?;
+    let Some(other) = other_of(&declared, spot, true) else {
         return Ok(());
     };
     let name = Part::Quote(spot.after(0));
     let line = spot.line(other.name.at);
     match other.thing {
-        Thing::Def { arguments, cowns } => {
+        Thing::Def => {
             let [given, held] = given_behind(spot.rest);
-            let taken = [Part::Many(arguments, "argument"), Part::Many(cowns, "cown")];
-            let [arguments, cowns] = taken;
-            lines.put(
+            let arguments = count_taken(&declared, other.name.at, Thing::Parameter);
+            let cowns = count_taken(&declared, other.name.at, Thing::CownParameter);
+            said.tell(
                 "{}, declared on line {}, takes {} and {}, but is given {} and {}",
                 &[
                     name,
                     line,
-                    arguments,
-                    cowns,
+                    Part::Many(arguments, "argument"),
+                    Part::Many(cowns, "cown"),
                     Part::Number(given),
                     Part::Number(held),
                 ],
             )
         }
-        Thing::Array => lines.put(
+        Thing::Array => said.tell(
             "{} is an array, declared on line {}: it needs an index, such as `{}[0]`",
             &[name, line, Part::Bytes(spot.after(0))],
         ),
-        thing => lines.put(
+        thing => said.tell(
             "{} is {}, declared on line {}, not an array: it takes no index",
             &[name, Part::Words(thing.called()), line],
         ),
@@ -47,24 +45,24 @@ pub(crate) fn put_wrong_count(lines: &mut Lines, spot: Spot<'_>) -> Result<(), A
 fn given_behind(rest: &[Word<'_>]) -> [u64; 2] {
     let mut arguments: u64 = 0;
     let mut cowns: u64 = 0;
-    let mut behind = false;
+    let mut in_cowns = false;
     let mut depth: usize = 0;
     // Nothing comes after the last sign that ends an argument.
     let mut fresh = true;
     for word in rest.iter().skip(1) {
-        let is_end = depth == 1 && (word.is(b";") || word.is(b","));
-        if word.is(b")") && depth <= 1 {
+        let is_end = depth == 1 && word.is("; ,");
+        if word.is(")") && depth <= 1 {
             break;
         }
         if depth > 0 && fresh && !is_end {
-            if behind {
+            if in_cowns {
                 cowns = cowns.saturating_add(1);
             } else {
                 arguments = arguments.saturating_add(1);
             }
         }
         fresh = is_end || depth == 0;
-        behind |= is_end && word.is(b";");
+        in_cowns |= is_end && word.is(";");
         match word.bytes {
             b"(" | b"[" => depth = depth.saturating_add(1),
             b")" | b"]" => depth = depth.saturating_sub(1),
@@ -75,13 +73,13 @@ fn given_behind(rest: &[Word<'_>]) -> [u64; 2] {
 }
 
 /// Writes which limit is passed at a place.
-pub(crate) fn put_too_many(lines: &mut Lines, spot: Spot<'_>) -> Result<(), AllocError> {
-    let (told, way_out) = if spot.after(0) == b"def".as_slice() {
+pub(crate) fn put_too_many(said: &mut Said, spot: Spot<'_>) -> Told {
+    let (told, way_out) = if spot.follows(0, "def") {
         (
             "a program has at most 64 defs",
             "merge some of them: pass a value that says which one is meant, and choose with `if`",
         )
-    } else if spot.before(0) == b"cown".as_slice() || spot.before(2) == b"cown".as_slice() {
+    } else if spot.precedes(0, "cown") || spot.precedes(2, "cown") {
         (
             "a program has at most 256 cowns, members of arrays included",
             "use one cown for several that are always held together: the order of behaviours stays the same",
@@ -97,8 +95,8 @@ pub(crate) fn put_too_many(lines: &mut Lines, spot: Spot<'_>) -> Result<(), Allo
             HANDED_ON,
         )
     };
-    lines.words(told)?;
-    lines.words(way_out)
+    said.words(told)?;
+    said.words(way_out)
 }
 
 // What a body can do that has too many values, cowns or nodes.

@@ -1,11 +1,12 @@
 // Hints for what other languages write: what this one has instead, if a token isn't allowed.
 
-use self::Only::{Always, Array, Block, Closed, Condition, Fourth, Has, Lead, Number};
+use self::Only::{
+    Always, Array, Block, Closed, Condition, Declared, Fourth, Has, Lead, NoDef, NoThird, Number,
+    Unnumbered,
+};
 use crate::allowed::Allowed;
-use crate::spot::{Lines, Spot};
-use boc_said::said::Part;
-use boc_said::tokens::{Word, is_keyword};
-use std::alloc::AllocError;
+use crate::spot::{Spot, Word};
+use boc_said::said::{Part, Said, Told};
 
 // A hint and when it applies: the word before the place, the one found there, and the next one are each among those listed, with a blank between them,
 // and a missing one is empty.
@@ -23,10 +24,18 @@ enum Only {
     Lead(&'static str),
     // This is the fourth word, counted from the one found.
     Fourth(&'static str),
+    // The third word, counted from the one found, is another one.
+    NoThird(&'static str),
     // This token is allowed.
     Has(&'static str),
     // An array may be declared.
     Array,
+    // The word before the place is no number.
+    Unnumbered,
+    // Nor is it, and the text declares it with this keyword.
+    Declared(&'static str),
+    // The text declares no def of this name.
+    NoDef,
     // Each earlier parenthesis is closed.
     Closed,
     // It is in the condition of an `if`.
@@ -60,6 +69,12 @@ const IN_A_BODY: &str = "statements belong in a body: that of a def, or of `main
 
 const NO_PARENTHESIS: &str = "this `)` has no matching `(`";
 
+const OF_A_COWN: &str =
+    "a body reads and writes only its parameters: pass it the member in the `when` that spawns it";
+
+const NO_MEMBERS: &str =
+    "a parameter or a `let` is one number: only a `cown NAME[N]` of the program has members";
+
 // Where a declaration may begin.
 #[rattlefmt::skip]
 static DECLARATION: [Rule; 11] = [
@@ -91,7 +106,9 @@ static BODY: [Rule; 8] = [
 
 // Where a value may continue.
 #[rattlefmt::skip]
-static VALUE: [Rule; 16] = [
+static VALUE: [Rule; 18] = [
+    Rule(ANY, "[", ANY, Declared("cown"), OF_A_COWN),
+    Rule(ANY, "[", ANY, Unnumbered, NO_MEMBERS),
     Rule(ANY, "in", ANY, Lead("repeat"), "a `repeat` has no counter: `let i = 0; repeat N { .. i = i + 1; }`"),
     Rule(ANY, "/", "/ *", Always, COMMENT),
     Rule("not", ANY, ANY, Always, "`x == 0` is 1 if x is 0, else 0"),
@@ -144,7 +161,7 @@ const NO_TYPE: &str = "a def has no type and returns no value";
 
 // After a name at the beginning of a statement, the same for all names.
 #[rattlefmt::skip]
-static STATEMENT: [Rule; 8] = [
+static STATEMENT: [Rule; 13] = [
     Rule(ANY, "; + - * / %", ANY, Lead("let"), "a local needs a first value: `let NAME = 0;`"),
     Rule("]", ";", ANY, Always, "the members of an array need a first value: `cown NAME[N] = 0;`"),
     Rule("]", "[", ANY, Always, "an array has one size"),
@@ -153,6 +170,11 @@ static STATEMENT: [Rule; 8] = [
     Rule("return", ANY, ANY, Always, "a body ends with its block and returns no value: write the result to a cown"),
     Rule("elif", ANY, ANY, Always, ELSE_IF),
     Rule("sleep wait", ANY, ANY, Always, "`work N;` takes N ticks"),
+    Rule("print println printf echo", ANY, ANY, NoDef, "a program prints nothing: `boc values` prints the final values of its cowns"),
+    Rule(ANY, "[", ANY, Declared("cown"), OF_A_COWN),
+    Rule(ANY, "[", ANY, Always, NO_MEMBERS),
+    Rule(ANY, "/", "/ *", NoThird("="), COMMENT),
+    Rule(ANY, "*", "*", Always, "there is no power operator: write the product, such as `x * x`"),
 ];
 
 impl Only {
@@ -160,13 +182,19 @@ impl Only {
     fn holds(self, spot: Spot<'_>, allowed: &Allowed) -> bool {
         match self {
             Always => true,
-            Lead(word) => spot.before(1) == word.as_bytes(),
-            Fourth(word) => spot.after(3) == word.as_bytes(),
+            Lead(word) => spot.precedes(1, word),
+            Fourth(word) => spot.follows(3, word),
+            NoThird(word) => !spot.follows(2, word),
             Has(token) => allowed.has(token.as_bytes()),
             Array => allowed.has(b"=") && allowed.has(b"["),
+            Unnumbered => !is_number(spot.before(0)),
+            Declared(keyword) => {
+                !is_number(spot.before(0)) && declares(spot, keyword, spot.before(0))
+            }
+            NoDef => !declares(spot, "def", spot.before(0)),
             Closed => !is_open(spot.front),
-            Condition => is_condition(spot.front),
-            Number => is_condition(spot.front) && is_number(spot.before(0)),
+            Condition => is_condition(spot),
+            Number => is_condition(spot) && is_number(spot.before(0)),
             Block => allowed.has(b"{") && !opens_block(spot.rest),
         }
     }
@@ -176,9 +204,9 @@ impl Rule {
     // Returns whether the rule applies.
     fn fits(&self, spot: Spot<'_>, allowed: &Allowed) -> bool {
         let Rule(before, found, behind, only, _) = self;
-        is_among(spot.before(0), before)
-            && is_among(spot.after(0), found)
-            && is_among(spot.after(1), behind)
+        (*before == ANY || spot.precedes(0, before))
+            && (*found == ANY || spot.follows(0, found))
+            && (*behind == ANY || spot.follows(1, behind))
             && only.holds(spot, allowed)
     }
 }
@@ -189,34 +217,26 @@ fn first_hint(rules: &[Rule], spot: Spot<'_>, allowed: &Allowed) -> Option<&'sta
     Some(*hint)
 }
 
-// Returns whether a word is one of these, separated by blanks.
-fn is_among(word: &[u8], these: &str) -> bool {
-    these == ANY
-        || these
-            .as_bytes()
-            .split(|byte| *byte == b' ')
-            .any(|one| one == word)
-}
-
 // Returns whether the word is a number.
 fn is_number(word: &[u8]) -> bool {
     matches!(word, [b'0'..=b'9', ..])
 }
 
-// Returns whether the place after these words is in the condition of an `if`.
-fn is_condition(front: &[Word<'_>]) -> bool {
-    let begins = front.iter().rev().find(|word| is_among(
-        word.bytes,
-        "if ; { } = let when work repeat",
-    ));
-    begins.is_some_and(|word| word.is(b"if"))
+// Returns whether the place is in the condition of an `if`.
+fn is_condition(spot: Spot<'_>) -> bool {
+    spot.is_behind("if", "if ; { } = let when work repeat")
 }
 
 // Returns whether a block begins among these words, and no statement ends before it.
 fn opens_block(rest: &[Word<'_>]) -> bool {
-    rest.iter()
-        .find(|word| is_among(word.bytes, "{ } ;"))
-        .is_some_and(|word| word.is(b"{"))
+    let end = rest.iter().find(|word| word.is("{ } ;"));
+    end.is_some_and(|word| word.is("{"))
+}
+
+// Returns whether the text declares this name with this keyword.
+fn declares(spot: Spot<'_>, keyword: &str, name: &[u8]) -> bool {
+    let mut pairs = spot.words.iter().zip(spot.words.iter().skip(1));
+    pairs.any(|(word, next)| word.is(keyword) && next.bytes == name)
 }
 
 /// Says whether since the last brace of these words more parentheses are opened than closed.
@@ -234,20 +254,12 @@ pub(crate) fn is_open(front: &[Word<'_>]) -> bool {
 }
 
 /// Appends what this language writes instead, if the mistake is one known from other languages.
-pub(crate) fn put_hint(
-    lines: &mut Lines,
-    spot: Spot<'_>,
-    allowed: &Allowed,
-) -> Result<(), AllocError> {
+pub(crate) fn put_hint(said: &mut Said, spot: Spot<'_>, allowed: &Allowed) -> Told {
     if allowed.is_assignment() {
-        return put_statement(lines, spot, allowed);
-    }
-    let is_bracket = spot.after(0) == b"[".as_slice();
-    if is_bracket && allowed.has(b"+") && !is_number(spot.before(0)) {
-        return put_member(lines, spot);
+        return put_statement(said, spot, allowed);
     }
     match first_hint(rules_of(allowed), spot, allowed) {
-        Some(hint) => lines.words(hint),
+        Some(hint) => said.words(hint),
         None => Ok(()),
     }
 }
@@ -267,119 +279,74 @@ fn rules_of(allowed: &Allowed) -> &'static [Rule] {
     }
 }
 
-// Returns whether the text declares this name with this keyword.
-fn declares(words: &[Word<'_>], keyword: &[u8], name: &[u8]) -> bool {
-    words
-        .iter()
-        .zip(words.iter().skip(1))
-        .any(|(word, next)| word.is(keyword) && next.is(name))
+// Appends a hint after a name at the beginning of a statement.
+fn put_statement(said: &mut Said, spot: Spot<'_>, allowed: &Allowed) -> Told {
+    let name = spot.before(0);
+    let is_called = spot.follows(0, "(");
+    if is_called && declares(spot, "def", name) {
+        put_spawn(said, spot, name)
+    } else if let Some(hint) = first_hint(&STATEMENT, spot, allowed) {
+        said.words(hint)
+    } else if is_called {
+        put_spawn(said, spot, name)
+    } else if spot.precedes(0, "spawn When go async") {
+        put_spawn(said, spot, spot.after(0))
+    } else if spot.precedes(0, DECLARING) {
+        put_local(said, spot)
+    } else if spot.follows(0, "+ - * / %") && !spot.follows(1, ">") {
+        put_change(said, spot)
+    } else {
+        Ok(())
+    }
 }
 
 // Appends how a behaviour with this name is spawned, and how it is declared if it isn't.
-fn put_spawn(lines: &mut Lines, words: &[Word<'_>], name: &[u8]) -> Result<(), AllocError> {
-    let name_part = [Part::Bytes(name)];
-    lines.put(
-        "spawn a behaviour with `when {}(values; cowns);`",
-        &name_part,
-    )?;
-    if declares(words, b"def", name) {
+fn put_spawn(said: &mut Said, spot: Spot<'_>, name: &[u8]) -> Told {
+    let called = [Part::Bytes(name)];
+    said.tell("spawn a behaviour with `when {}(values; cowns);`", &called)?;
+    if declares(spot, "def", name) {
         return Ok(());
     }
-    let declared = "and declare it with `def {}(values; cowns) { .. }`: there are no other calls";
-    lines.put(declared, &name_part)
-}
-
-// Appends how a body reads and writes what it names with brackets.
-fn put_member(lines: &mut Lines, spot: Spot<'_>) -> Result<(), AllocError> {
-    lines.words(if declares(spot.words, b"cown", spot.before(0)) {
-        "a body reads and writes only its parameters: pass it the member in the `when` that spawns it"
-    } else {
-        "a parameter or a `let` is one number: only a `cown NAME[N]` of the program has members"
-    })
+    let words = "and declare it with `def {}(values; cowns) { .. }`: there are no other calls";
+    said.tell(words, &called)
 }
 
 // Words that declare locals in other languages.
 const DECLARING: &str = "mut int long var const auto";
 
 // Appends how a local is declared, for a declaration by a word of other languages, or by two.
-fn put_local(lines: &mut Lines, spot: Spot<'_>) -> Result<(), AllocError> {
-    let is_second = is_among(spot.after(0), DECLARING) && spot.after(2) == b"=".as_slice();
+fn put_local(said: &mut Said, spot: Spot<'_>) -> Told {
+    let is_second = spot.follows(0, DECLARING) && spot.follows(2, "=");
     let place = usize::from(is_second);
     let name = spot.after(place);
-    let is_taken = declares(spot.words, b"cown", name) || declares(spot.words, b"def", name);
-    let words = if is_taken {
+    let words = if declares(spot, "cown", name) || declares(spot, "def", name) {
         "declare a local with `let NAME = ..;`; `{}` is taken"
-    } else if is_keyword(name) {
+    } else if spot.has_keyword(place) {
         "declare a local with `let NAME = ..;`; `{}` is a keyword"
-    } else if spot.after(place.saturating_add(1)) == b"[".as_slice() {
+    } else if spot.follows(place.saturating_add(1), "[") {
         "only cowns have arrays, declared before the defs: `cown {}[N] = 0;`"
-    } else if declares(spot.words, b"let", name) {
+    } else if declares(spot, "let", name) {
         "declare a local with `let {} = ..;`, once, and change it without `let`"
     } else {
         "declare a local with `let {} = ..;`"
     };
-    lines.put(words, &[Part::Bytes(name)])
+    said.tell(words, &[Part::Bytes(name)])
 }
 
 // Appends how a variable is changed, for a sign that other languages write before `=`, or twice.
-fn put_change(lines: &mut Lines, spot: Spot<'_>) -> Result<(), AllocError> {
+fn put_change(said: &mut Said, spot: Spot<'_>) -> Told {
     let (name, sign) = (spot.before(0), spot.after(0));
-    if declares(spot.words, b"def", name) {
-        return lines.words("only a `when` can name a def");
-    }
-    if declares(spot.words, b"cown", name) {
-        return lines.words(
+    let words = if declares(spot, "def", name) {
+        return said.words("only a `when` can name a def");
+    } else if declares(spot, "cown", name) {
+        return said.words(
             "a body reads and writes only its parameters: pass it the cown in the `when` that spawns it",
         );
-    }
-    let is_step = is_among(sign, "+ -") && spot.after(1) == sign;
-    let words = if is_step {
+    } else if spot.follows(0, "+ -") && spot.after(1) == sign {
         "write the change in full: `{} = {} {} 1;`"
     } else {
         "write the change in full: `{} = {} {} ..;`"
     };
     let name = Part::Bytes(name);
-    lines.put(words, &[name, name, Part::Bytes(sign)])
-}
-
-// Appends a hint after a name at the beginning of a statement.
-fn put_statement(lines: &mut Lines, spot: Spot<'_>, allowed: &Allowed) -> Result<(), AllocError> {
-    let name = spot.before(0);
-    let is_called = spot.after(0) == b"(".as_slice();
-    let is_def = declares(spot.words, b"def", name);
-    if is_called && is_def {
-        return put_spawn(lines, spot.words, name);
-    }
-    if let Some(hint) = first_hint(&STATEMENT, spot, allowed) {
-        return lines.words(hint);
-    }
-    if is_among(name, "print println printf echo") && !is_def {
-        return lines.words(
-            "a program prints nothing: `boc values` prints the final values of its cowns",
-        );
-    }
-    match spot.after(0) {
-        b"(" => put_spawn(lines, spot.words, name),
-        b"[" => put_member(lines, spot),
-        _ => put_sign(lines, spot),
-    }
-}
-
-// Appends a hint for a sign or a word after a name at the beginning of a statement.
-fn put_sign(lines: &mut Lines, spot: Spot<'_>) -> Result<(), AllocError> {
-    let (name, found, behind) = (spot.before(0), spot.after(0), spot.after(1));
-    let is_divided = spot.after(2) == b"=".as_slice();
-    if found == b"/".as_slice() && is_among(behind, "/ *") && !is_divided {
-        lines.words(COMMENT)
-    } else if found == b"*".as_slice() && behind == found {
-        lines.words("there is no power operator: write the product, such as `x * x`")
-    } else if is_among(name, "spawn When go async") {
-        put_spawn(lines, spot.words, found)
-    } else if is_among(name, DECLARING) {
-        put_local(lines, spot)
-    } else if is_among(found, "+ - * / %") && behind != b">".as_slice() {
-        put_change(lines, spot)
-    } else {
-        Ok(())
-    }
+    said.tell(words, &[name, name, Part::Bytes(sign)])
 }

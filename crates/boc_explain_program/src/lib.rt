@@ -5,6 +5,7 @@
 
 mod allowed;
 mod counted;
+mod declared;
 mod hint;
 mod named;
 mod program;

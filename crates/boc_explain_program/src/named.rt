@@ -1,10 +1,8 @@
 // Names that aren't in scope, and names that are taken.
 
-use crate::spot::{Lines, Spot};
-use boc_said::declared::{Declaration, Thing, body_names, declared_as, top_names};
-use boc_said::said::Part;
-use boc_said::tokens::Word;
-use std::alloc::{AllocError, Global};
+use crate::declared::{Thing, declarations, other_of};
+use crate::spot::Spot;
+use boc_said::said::{Part, Said, Told};
 
 /// What a name stands for at a place.
 #[derive(Clone, Copy, PartialEq, Eq)]
@@ -19,65 +17,47 @@ enum Use {
     Value,
 }
 
-/// Finds what else declares the name at a place: first among the parameters and locals of its body, or else first among the cowns and defs.
-pub(crate) fn other_of<'a>(
-    alloc: Global,
-    spot: Spot<'a>,
-    body_first: bool,
-) -> Result<Option<Declaration<'a>>, AllocError> {
-    let top = top_names(alloc, spot.words)?;
-    let body = body_names(alloc, spot.words, spot.at)?;
-    let of_top = declared_as(&top, spot.after(0), spot.at);
-    let of_body = declared_as(&body, spot.after(0), spot.at);
-    Ok(if body_first {
-        of_body.or(of_top)
-    } else {
-        of_top.or(of_body)
-    })
-}
-
 /// Writes what a name that isn't in scope is elsewhere.
-pub(crate) fn put_unknown(lines: &mut Lines, spot: Spot<'_>) -> Result<(), AllocError> {
-    let wanted = use_of(spot.front);
+pub(crate) fn put_unknown(said: &mut Said, spot: Spot<'_>) -> Told {
+    let wanted = use_of(spot);
     let name = Part::Quote(spot.after(0));
-    let Some(other) = other_of(lines.alloc, spot, false)? else {
+    let declared = declarations(said.alloc, spot.words)?;
+    let Some(other) = other_of(&declared, spot, false) else {
         let words = match wanted {
             Use::Def => "no def is called {}",
             Use::Cown => "no cown is called {}",
             Use::Argument | Use::Value => "no parameter or `let` of this body is called {}",
         };
-        lines.put(words, &[name])?;
-        return put_undeclared(lines, spot);
+        said.tell(words, &[name])?;
+        return put_undeclared(said, spot);
     };
-    let is_behind = other.name.at > spot.at && matches!(other.thing, Thing::Local);
-    let words = if is_behind {
+    let is_later = other.name.at > spot.at && other.thing == Thing::Local;
+    let words = if is_later {
         "{} is {}, declared only later, on line {}"
     } else {
         "{} is {}, declared on line {}"
     };
     let called = Part::Words(other.thing.called());
-    lines.put(words, &[name, called, spot.line(other.name.at)])?;
-    lines.words(wanted_words(wanted, other.thing, is_in_main(spot.front)))
+    said.tell(words, &[name, called, spot.line(other.name.at)])?;
+    let is_main = spot.is_behind("main", "def main");
+    said.words(wanted_words(wanted, other.thing, is_main))
 }
 
 // Writes, for a name that isn't declared anywhere, how a local is, where it is written, or what truth is.
-fn put_undeclared(lines: &mut Lines, spot: Spot<'_>) -> Result<(), AllocError> {
-    let begins = matches!(spot.before(0), b";" | b"{" | b"}");
-    if begins && spot.after(1) == b"=".as_slice() {
+fn put_undeclared(said: &mut Said, spot: Spot<'_>) -> Told {
+    if spot.precedes(0, "; { }") && spot.follows(1, "=") {
         let name = Part::Bytes(spot.after(0));
-        return lines.put("declare a local with `let {} = ..;`", &[name]);
-    }
-    match spot.after(0) {
-        b"true" | b"false" | b"True" | b"False" => lines.words(
-            "values are integers: a comparison is 1 if it holds, else 0",
-        ),
-        _ => Ok(()),
+        said.tell("declare a local with `let {} = ..;`", &[name])
+    } else if spot.follows(0, "true false True False") {
+        said.words("values are integers: a comparison is 1 if it holds, else 0")
+    } else {
+        Ok(())
     }
 }
 
 // Returns what is wanted instead of what a name is.
 fn wanted_words(wanted: Use, other: Thing, is_main: bool) -> &'static str {
-    let is_cown = matches!(other, Thing::Cown | Thing::Array);
+    let is_cown = other.is_cown();
     match wanted {
         Use::Def => "a `when` takes the name of a def",
         Use::Cown => "a `when` takes cowns of the program or cown parameters after its `;`",
@@ -91,68 +71,59 @@ fn wanted_words(wanted: Use, other: Thing, is_main: bool) -> &'static str {
             "a body reads and writes a cown only through a parameter: pass it in the `when` that spawns the body"
         }
         Use::Argument | Use::Value => match other {
-            Thing::Def { .. } => "only a `when` can name a def",
+            Thing::Def => "only a `when` can name a def",
             _ => "a `let` is in scope after its statement, until the end of its block",
         },
     }
 }
 
-// Returns what the name after these words stands for. It is a cown of a `when` after the semicolon in its parentheses.
-fn use_of(front: &[Word<'_>]) -> Use {
-    let mut before = front.iter().rev();
+// Returns what the name at a place stands for. It is a cown of a `when` after the semicolon in its parentheses.
+fn use_of(spot: Spot<'_>) -> Use {
+    if spot.precedes(0, "when") {
+        return Use::Def;
+    }
+    let mut before = spot.front.iter().rev();
     let mut depth: usize = 0;
-    let mut behind = false;
-    let mut first = true;
+    let mut in_cowns = false;
     while let Some(word) = before.next() {
         match word.bytes {
-            b"when" if first => return Use::Def,
             b")" | b"]" => depth = depth.saturating_add(1),
-            b";" if depth == 0 => behind = true,
-            b"[" if depth == 0 => return Use::Value,
+            b";" if depth == 0 => in_cowns = true,
             b"(" if depth == 0 => {
-                let called = before.nth(1).is_some_and(|word| word.is(b"when"));
-                return match (called, behind) {
+                let is_spawn = before.nth(1).is_some_and(|word| word.is("when"));
+                return match (is_spawn, in_cowns) {
                     (true, true) => Use::Cown,
                     (true, false) => Use::Argument,
                     _ => Use::Value,
                 };
             }
+            b"[" if depth == 0 => return Use::Value,
             b"(" | b"[" => depth = depth.saturating_sub(1),
             b"{" | b"}" => return Use::Value,
             _ => {}
         }
-        first = false;
     }
     Use::Value
 }
 
-// Returns whether the place after these words is in the body of main.
-fn is_in_main(front: &[Word<'_>]) -> bool {
-    let begins = front
-        .iter()
-        .rev()
-        .find(|word| matches!(word.bytes, b"def" | b"main"));
-    begins.is_some_and(|word| word.is(b"main"))
-}
-
 /// Writes what has a name that is taken.
-pub(crate) fn put_taken(lines: &mut Lines, spot: Spot<'_>) -> Result<(), AllocError> {
-    let Some(other) = other_of(lines.alloc, spot, false)? else {
+pub(crate) fn put_taken(said: &mut Said, spot: Spot<'_>) -> Told {
+    let declared = declarations(said.alloc, spot.words)?;
+    let Some(other) = other_of(&declared, spot, false) else {
         return Ok(());
     };
-    let declared = match spot.before(0) {
+    let taking = match spot.before(0) {
         b"cown" => "a cown",
         b"def" => "a def",
         b"let" => "a `let`",
         _ => "a parameter",
     };
-    lines.put(
+    let (name, called) = (
+        Part::Quote(spot.after(0)),
+        Part::Words(other.thing.called()),
+    );
+    said.tell(
         "{} is {}, declared on line {}; {} can't have its name",
-        &[
-            Part::Quote(spot.after(0)),
-            Part::Words(other.thing.called()),
-            spot.line(other.name.at),
-            Part::Words(declared),
-        ],
+        &[name, called, spot.line(other.name.at), Part::Words(taking)],
     )
 }

@@ -3,14 +3,13 @@
 use crate::counted::{put_too_many, put_wrong_count};
 use crate::named::{put_taken, put_unknown};
 use crate::shaped::put_unexpected;
-use crate::spot::{Lines, Spot, words_of};
+use crate::spot::{Spot, words_of};
 use boc_reader::{ReadFault, ReadFaultKind};
 use boc_said::place::{
-    Place, Text, has_start, looks_like_names, looks_like_program, looks_like_record,
-    put_names_file, put_nothing, put_pair,
+    Place, Text, has_start, looks_like_names, looks_like_record, put_names_file, put_nothing,
+    put_pair,
 };
-use boc_said::said::{Part, Said};
-use boc_said::tokens::{is_name_byte, run_len};
+use boc_said::said::{Part, Said, Told};
 use boc_said::view::{first_line, last_line, put_place};
 use std::alloc::{AllocError, Global};
 
@@ -23,114 +22,117 @@ pub fn explain_program(
 ) -> Result<String, AllocError> {
     let mut said = Said::new(alloc);
     said.set_place(u64::from(fault.line), 1);
-    let mut lines = Lines { alloc, said };
     let at = fault.at as usize;
     if text.bytes.is_empty() && text.whole {
-        put_nothing(&mut lines.said, text)?;
+        put_nothing(&mut said, text)?;
     } else if looks_like_record(text.bytes) {
-        put_record(&mut lines, place)?;
+        put_record(&mut said, place)?;
     } else if looks_like_names(text.bytes) {
-        put_names_file(&mut lines.said)?;
+        put_names_file(&mut said)?;
     } else if has_start(text.bytes) {
-        lines.words("this looks like a record, but its first line is not `boc 2 COWNS`")?;
+        said.words("this looks like a record, but its first line is not `boc 2 COWNS`")?;
     } else if at <= text.bytes.len() {
-        put_fault(&mut lines, text.bytes, fault.kind, at)?;
+        put_fault(&mut said, text.bytes, fault.kind, at)?;
     }
-    lines.said.into_text(text.name)
+    said.into_text(text.name)
 }
 
 // Writes that a record is where a program is wanted.
-fn put_record(lines: &mut Lines, place: Place<'_>) -> Result<(), AllocError> {
+fn put_record(said: &mut Said, place: Place<'_>) -> Told {
     if place.is_of_pair() {
-        let swapped = looks_like_program(place.other);
-        return put_pair(&mut lines.said, place, "record", "program", swapped);
+        return put_pair(said, place, true);
     }
-    lines.put(
+    said.tell(
         "this looks like a record; {} reads programs: check, profile, whatif, curve, sweep, why and cowns read records",
         &[Part::Words(place.command)],
     )
 }
 
-fn put_fault(
-    lines: &mut Lines,
-    text: &[u8],
-    kind: ReadFaultKind,
-    at: usize,
-) -> Result<(), AllocError> {
+fn put_fault(said: &mut Said, text: &[u8], kind: ReadFaultKind, at: usize) -> Told {
     match kind {
-        ReadFaultKind::TooLong => lines.words("a program text has at most 65536 bytes"),
+        ReadFaultKind::TooLong => said.words("a program text has at most 65536 bytes"),
         ReadFaultKind::Memory => Ok(()),
         ReadFaultKind::NotAscii | ReadFaultKind::BadToken | ReadFaultKind::NumberTooLarge => {
-            put_place(&mut lines.said, text, at)?;
+            put_place(said, text, at)?;
             let (front, rest) = text.split_at(at.min(text.len()));
-            put_no_token(lines, kind, front, rest)
+            put_no_token(said, kind, front, rest)
         }
         ReadFaultKind::Unexpected => {
-            let words = words_of(lines.alloc, text)?;
-            put_unexpected(lines, Spot::new(text, &words, at))
+            let words = words_of(said.alloc, text)?;
+            put_unexpected(said, Spot::new(text, &words, at))
         }
         ReadFaultKind::UnknownName
         | ReadFaultKind::NameTaken
         | ReadFaultKind::WrongCount
         | ReadFaultKind::TooMany => {
-            put_place(&mut lines.said, text, at)?;
-            let words = words_of(lines.alloc, text)?;
-            put_word(lines, kind, Spot::new(text, &words, at))
+            put_place(said, text, at)?;
+            let words = words_of(said.alloc, text)?;
+            put_word(said, kind, Spot::new(text, &words, at))
         }
     }
 }
 
 // Writes about a fault of the word at a place.
-fn put_word(lines: &mut Lines, kind: ReadFaultKind, spot: Spot<'_>) -> Result<(), AllocError> {
+fn put_word(said: &mut Said, kind: ReadFaultKind, spot: Spot<'_>) -> Told {
     match kind {
-        ReadFaultKind::UnknownName => put_unknown(lines, spot),
-        ReadFaultKind::NameTaken => put_taken(lines, spot),
-        ReadFaultKind::WrongCount => put_wrong_count(lines, spot),
-        _ => put_too_many(lines, spot),
+        ReadFaultKind::UnknownName => put_unknown(said, spot),
+        ReadFaultKind::NameTaken => put_taken(said, spot),
+        ReadFaultKind::WrongCount => put_wrong_count(said, spot),
+        _ => put_too_many(said, spot),
     }
 }
 
+// A byte of which names, keywords and numbers are made.
+fn is_name_byte(byte: u8) -> bool {
+    byte.is_ascii_alphanumeric() || byte == b'_'
+}
+
 // Writes about bytes after this front that form no token: a number that is none, a name that is too long, or a byte that begins none.
-fn put_no_token(
-    lines: &mut Lines,
-    kind: ReadFaultKind,
-    front: &[u8],
-    rest: &[u8],
-) -> Result<(), AllocError> {
-    let (run, _) = rest.split_at(run_len(rest).min(rest.len()));
+fn put_no_token(said: &mut Said, kind: ReadFaultKind, front: &[u8], rest: &[u8]) -> Told {
+    let size = rest.iter().take_while(|byte| is_name_byte(**byte)).count();
+    let (run, _) = rest.split_at(size.min(rest.len()));
     let first = rest.first().copied().unwrap_or(0);
     let (byte, quoted) = (Part::Hex(first), Part::Quote(run));
-    if let ReadFaultKind::NotAscii = kind {
-        let words = "the byte {} is not ASCII; programs are ASCII, their comments too";
-        return lines.put(words, &[byte]);
-    }
-    if let ReadFaultKind::NumberTooLarge = kind {
-        let words = "{} is above 9223372036854775807, the largest number";
-        return lines.put(words, &[quoted]);
-    }
-    if !first.is_ascii_graphic() {
-        return lines.put("the byte {} is not a token", &[byte]);
-    }
-    if run.is_empty() {
-        let (sign, behind) = rest.split_at(rest.len().min(1));
-        let instead = if first == b':' {
-            colon_words(front, behind)
-        } else {
-            other_words(first, front, behind)
-        };
-        let parts = [Part::Quote(sign), Part::Words(instead)];
-        return lines.put("{} is not a token{}", &parts);
-    }
-    if first == b'0' && run.iter().all(|byte| byte.is_ascii_digit()) {
-        let words = "{}: a number can't begin with 0, except 0 itself";
-        return lines.put(words, &[quoted]);
-    }
-    if first.is_ascii_digit() {
-        let words = "{}: a number has only digits, and a name can't begin with one";
-        return lines.put(words, &[quoted]);
-    }
-    let words = "{}: a name has at most 32 bytes, and this one has {}";
-    lines.put(words, &[quoted, Part::Number(run.len() as u64)])
+    let (words, part) = if let ReadFaultKind::NotAscii = kind {
+        (
+            "the byte {} is not ASCII; programs are ASCII, their comments too",
+            byte,
+        )
+    } else if let ReadFaultKind::NumberTooLarge = kind {
+        (
+            "{} is above 9223372036854775807, the largest number",
+            quoted,
+        )
+    } else if !first.is_ascii_graphic() {
+        ("the byte {} is not a token", byte)
+    } else if run.is_empty() {
+        return put_sign(said, first, front, rest);
+    } else if first == b'0' && run.iter().all(u8::is_ascii_digit) {
+        ("{}: a number can't begin with 0, except 0 itself", quoted)
+    } else if first.is_ascii_digit() {
+        (
+            "{}: a number has only digits, and a name can't begin with one",
+            quoted,
+        )
+    } else {
+        let words = "{}: a name has at most 32 bytes, and this one has {}";
+        return said.tell(words, &[quoted, Part::Number(size as u64)]);
+    };
+    said.tell(words, &[part])
+}
+
+// Writes about a sign between this front and the rest, which it begins, and what is written instead of it here.
+fn put_sign(said: &mut Said, sign: u8, front: &[u8], rest: &[u8]) -> Told {
+    let (bytes, behind) = rest.split_at(rest.len().min(1));
+    let instead = if sign == b':' {
+        colon_words(front, behind)
+    } else {
+        other_words(sign, front, behind)
+    };
+    said.tell(
+        "{} is not a token{}",
+        &[Part::Quote(bytes), Part::Words(instead)],
+    )
 }
 
 // After such a word a block begins, here or in other languages.

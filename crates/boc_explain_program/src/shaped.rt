@@ -2,11 +2,10 @@
 
 use crate::allowed::{Allowed, NAME, NUMBER};
 use crate::hint::{is_open, put_hint};
-use crate::spot::{Lines, Spot};
+use crate::spot::{Spot, Word};
 use boc_reader::Expected;
 use boc_said::place::is_first_word;
-use boc_said::said::Part;
-use boc_said::tokens::{Word, is_keyword};
+use boc_said::said::{Part, Said, Told};
 use boc_said::view::{line_number, put_place};
 use std::alloc::{AllocError, Global};
 
@@ -14,56 +13,55 @@ use std::alloc::{AllocError, Global};
 const MOST_TOLD: usize = 3;
 
 /// Writes what isn't allowed at a place, and what is.
-pub(crate) fn put_unexpected(lines: &mut Lines, spot: Spot<'_>) -> Result<(), AllocError> {
+pub(crate) fn put_unexpected(said: &mut Said, spot: Spot<'_>) -> Told {
     if is_size(spot) {
-        put_place(&mut lines.said, spot.text, spot.at)?;
-        return lines.words("an array has 1 to 256 members");
+        put_place(said, spot.text, spot.at)?;
+        return said.words("an array has 1 to 256 members");
     }
-    let Some(expected) = Expected::of_text(lines.alloc, spot.text)? else {
+    let Some(expected) = Expected::of_text(said.alloc, spot.text)? else {
         return Ok(());
     };
-    let allowed = Allowed::of(lines.alloc, &expected)?;
-    let found = spot.after(0);
+    let allowed = Allowed::of(said.alloc, &expected)?;
     let ends_line = allowed.has(b";") && is_on_later_line(spot);
     if ends_line && is_open(spot.front) && begins_statement(spot) {
-        put_place(&mut lines.said, spot.text, spot.at)?;
-        put_found(lines, spot)?;
-        return lines.words("this list is not closed: a list is `(values; cowns)`");
+        put_place(said, spot.text, spot.at)?;
+        put_found(said, spot)?;
+        return said.words("this list is not closed: a list is `(values; cowns)`");
     }
     if let Some(last) = spot.front.last()
-        && (ends_line || allowed.lacks_semicolon && ends_statement(found))
+        && (ends_line || allowed.lacks_semicolon && ends_statement(spot))
     {
-        put_place(&mut lines.said, spot.text, last.end())?;
+        put_place(said, spot.text, last.at.saturating_add(last.bytes.len()))?;
         let parts = [Part::Quote(last.bytes), spot.line(last.at)];
-        return lines.put("a `;` is missing after {} on line {}", &parts);
+        return said.tell("a `;` is missing after {} on line {}", &parts);
     }
-    put_place(&mut lines.said, spot.text, spot.at)?;
-    put_found(lines, spot)?;
-    let open = open_blocks(lines.alloc, spot.front)?;
-    let ends_no_block = found.is_empty() || is_first_word(found);
+    put_place(said, spot.text, spot.at)?;
+    put_found(said, spot)?;
+    let open = open_blocks(said.alloc, spot.front)?;
+    let ends_no_block = spot.rest.is_empty() || is_first_word(spot.after(0));
     if !open.is_empty() && ends_no_block && allowed.has(b"}") && opens_more(spot.words) {
-        return put_open(lines, spot, &open);
+        return put_open(said, spot, &open);
     }
-    put_allowed(lines, found, &allowed)?;
-    put_hint(lines, spot, &allowed)
+    put_allowed(said, spot, &allowed)?;
+    put_hint(said, spot, &allowed)
 }
 
 // Returns whether the word before a place is on an earlier line.
 fn is_on_later_line(spot: Spot<'_>) -> bool {
-    match spot.front.last() {
-        Some(last) => line_number(spot.text, last.at) < line_number(spot.text, spot.at),
-        None => false,
-    }
+    let line = line_number(spot.text, spot.at);
+    spot.front
+        .last()
+        .is_some_and(|last| line_number(spot.text, last.at) < line)
 }
 
 // Returns the braces that begin a block, and that none of these words closes.
 fn open_blocks<'a>(alloc: Global, words: &[Word<'a>]) -> Result<Vec<Word<'a>>, AllocError> {
     let mut open = Vec::new(alloc);
     for word in words {
-        if word.is(b"{") {
+        if word.is("{") {
             open.push(*word)?;
         }
-        if word.is(b"}") {
+        if word.is("}") {
             open.pop();
         }
     }
@@ -72,79 +70,69 @@ fn open_blocks<'a>(alloc: Global, words: &[Word<'a>]) -> Result<Vec<Word<'a>>, A
 
 // Returns whether the word at a place begins a statement, or ends a block.
 fn begins_statement(spot: Spot<'_>) -> bool {
-    match spot.rest.first() {
-        Some(word) if word.is_name() => spot.after(1) == b"=".as_slice(),
-        Some(word) => word.is(b"}") || is_keyword(word.bytes),
-        None => false,
-    }
+    let is_name = spot.rest.first().is_some_and(Word::is_name);
+    is_name && spot.follows(1, "=") || spot.follows(0, "}") || spot.has_keyword(0)
 }
 
-// Returns whether a statement or a block ended before this. An `if` after a value is rather meant as one.
-fn ends_statement(found: &[u8]) -> bool {
-    matches!(found, b"}") || is_keyword(found) && !matches!(found, b"if" | b"else")
+// Returns whether a statement or a block ended before the word at a place. An `if` after a value is rather meant as one.
+fn ends_statement(spot: Spot<'_>) -> bool {
+    spot.follows(0, "}") || spot.has_keyword(0) && !spot.follows(0, "if else")
 }
 
 // Returns whether the text has more braces that begin a block than such as end one.
 fn opens_more(words: &[Word<'_>]) -> bool {
-    let begun = words.iter().filter(|word| word.is(b"{")).count();
-    let ended = words.iter().filter(|word| word.is(b"}")).count();
+    let begun = words.iter().filter(|word| word.is("{")).count();
+    let ended = words.iter().filter(|word| word.is("}")).count();
     begun > ended
 }
 
 // Writes that these blocks are not closed, which begin with the outermost.
-fn put_open(lines: &mut Lines, spot: Spot<'_>, open: &[Word<'_>]) -> Result<(), AllocError> {
+fn put_open(said: &mut Said, spot: Spot<'_>, open: &[Word<'_>]) -> Told {
     match open {
         [] => Ok(()),
-        [block] => lines.put(
+        [block] => said.tell(
             "the block that begins on line {} is not closed: a `}` is missing",
             &[spot.line(block.at)],
         ),
-        [outermost, .., innermost] => lines.put(
-            "{} blocks are not closed: the innermost begins on line {}, the outermost on line {}",
-            &[
-                Part::Number(open.len() as u64),
-                spot.line(innermost.at),
-                spot.line(outermost.at),
-            ],
-        ),
+        [outermost, .., innermost] => {
+            let count = Part::Number(open.len() as u64);
+            said.tell(
+                "{} blocks are not closed: the innermost begins on line {}, the outermost on line {}",
+                &[count, spot.line(innermost.at), spot.line(outermost.at)],
+            )
+        }
     }
 }
 
 // Returns whether the word is the size of an array, which is reported only where it is 0.
 fn is_size(spot: Spot<'_>) -> bool {
-    let named = spot
-        .front
-        .iter()
-        .rev()
-        .nth(1)
-        .is_some_and(|word| word.is_name());
-    spot.after(0) == b"0".as_slice()
-        && spot.before(0) == b"[".as_slice()
-        && named
-        && spot.before(2) == b"cown".as_slice()
+    let named = spot.front.iter().rev().nth(1).is_some_and(Word::is_name);
+    named && spot.follows(0, "0") && spot.precedes(0, "[") && spot.precedes(2, "cown")
 }
 
 // Writes what was found, and after what.
-fn put_found(lines: &mut Lines, spot: Spot<'_>) -> Result<(), AllocError> {
+fn put_found(said: &mut Said, spot: Spot<'_>) -> Told {
     let found = Part::Quote(spot.after(0));
+    let is_end = spot.rest.is_empty();
     let Some(last) = spot.front.last() else {
-        return match spot.rest {
-            [] => lines.words("the program has no tokens"),
-            _ => lines.put("a program can't begin with {}", &[found]),
-        };
+        if is_end {
+            return said.words("the program has no tokens");
+        }
+        return said.tell("a program can't begin with {}", &[found]);
     };
     let (before, line) = (Part::Quote(last.bytes), spot.line(last.at));
-    match spot.rest {
-        [] => lines.put("the program can't end after {} on line {}", &[before, line]),
-        _ => lines.put("{} can't follow {} on line {}", &[found, before, line]),
+    if is_end {
+        return said.tell("the program can't end after {} on line {}", &[before, line]);
     }
+    said.tell("{} can't follow {} on line {}", &[found, before, line])
 }
 
-// Writes what is expected instead of these bytes.
-fn put_allowed(lines: &mut Lines, bytes: &[u8], allowed: &Allowed) -> Result<(), AllocError> {
-    if allowed.has(NAME) && is_keyword(bytes) && !allowed.has(NUMBER) && !allowed.has(b"let") {
+// Writes what is expected instead of the word at a place.
+fn put_allowed(said: &mut Said, spot: Spot<'_>, allowed: &Allowed) -> Told {
+    let wants_name = allowed.has(NAME) && !allowed.has(NUMBER) && !allowed.has(b"let");
+    if wants_name && spot.has_keyword(0) {
         let words = "expected a name; {} is a keyword";
-        return lines.put(words, &[Part::Quote(bytes)]);
+        return said.tell(words, &[Part::Quote(spot.after(0))]);
     }
     let words = match allowed.tokens.len() {
         0 => "a program ends with main's block",
@@ -153,9 +141,9 @@ fn put_allowed(lines: &mut Lines, bytes: &[u8], allowed: &Allowed) -> Result<(),
         MOST_TOLD => "expected one of: {}, {}, {}",
         _ => "expected one of: {}, {}, {}, ..",
     };
-    let mut told = Vec::new(lines.alloc);
+    let mut told = Vec::new(said.alloc);
     for token in allowed.tokens.iter().take(MOST_TOLD) {
         told.push(token.told())?;
     }
-    lines.put(words, &told)
+    said.tell(words, &told)
 }

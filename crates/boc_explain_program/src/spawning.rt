@@ -1,13 +1,12 @@
 // Runs that reach more behaviours than there may be.
 
-use crate::spot::{Lines, words_of};
+use crate::spot::{Word, words_of};
 use boc_draws::{Depth, DrawFault, way_of};
 use boc_program::limits::{MOST_ROWS, MOST_RUNNERS};
 use boc_progress::Silent;
 use boc_reader::read_program;
 use boc_registers::compiled::CompiledProgram;
-use boc_said::said::{Part, Said};
-use boc_said::tokens::Word;
+use boc_said::said::{Part, Said, Told};
 use boc_said::view::line_number;
 use std::alloc::{AllocError, Global};
 
@@ -35,26 +34,24 @@ pub fn explain_behaviours(
     program: &[u8],
     drawn: Option<AtDepth>,
 ) -> Result<String, AllocError> {
-    let mut lines = Lines {
-        alloc,
-        said: Said::new(alloc),
-    };
-    let most = [Part::Number(MOST_ROWS as u64)];
-    let words = "a run has at most {} behaviours, main included, and this one has more";
-    lines.put(words, &most)?;
+    let mut said = Said::new(alloc);
+    said.tell(
+        "a run has at most {} behaviours, main included, and this one has more",
+        &[Part::Number(MOST_ROWS as u64)],
+    )?;
     if let Some(drawn) = drawn {
-        put_draw(&mut lines, program, drawn)?;
+        put_draw(&mut said, program, drawn)?;
     }
     let words = words_of(alloc, program)?;
     let names = def_names(alloc, &words)?;
     let spawns = spawns_of(alloc, &words, &names)?;
     match first_again(alloc, names.len(), &spawns)? {
-        Some(spawn) => put_again(&mut lines, program, &names, spawn)?,
-        None => lines.words(
+        Some(spawn) => put_again(&mut said, program, &names, spawn)?,
+        None => said.words(
             "no def spawns itself: look for a `when` in a `repeat`, and for defs that each spawn several others",
         )?,
     }
-    lines.said.into_text(None)
+    said.into_text(None)
 }
 
 // The draw that counts the steps reaches too many behaviours.
@@ -66,21 +63,21 @@ const COUNTED: &str =
     "for --depth a run with seed 0 counts the steps first: that run has no more, but one at this depth has";
 
 // Writes which draw reaches too many behaviours: that which counts the steps, or one at the depth for which they are counted.
-fn put_draw(lines: &mut Lines, program: &[u8], drawn: AtDepth) -> Result<(), AllocError> {
+fn put_draw(said: &mut Said, program: &[u8], drawn: AtDepth) -> Told {
     let AtDepth { workers, depth } = drawn;
-    let Ok(program) = read_program(lines.alloc, program) else {
+    let Ok(program) = read_program(said.alloc, program) else {
         return Ok(());
     };
     if !(1..=MOST_RUNNERS as u32).contains(&workers) {
         return Ok(());
     }
-    let compiled = CompiledProgram::new(lines.alloc, &program)?;
-    let told = match way_of(lines.alloc, &compiled, workers, Some(depth), &mut Silent) {
+    let compiled = CompiledProgram::new(said.alloc, &program)?;
+    let told = match way_of(said.alloc, &compiled, workers, Some(depth), &mut Silent) {
         Ok(_) => COUNTED,
         Err(DrawFault::Behaviours) => COUNTING,
         Err(DrawFault::Memory) => return Err(AllocError),
     };
-    lines.words(told)
+    said.words(told)
 }
 
 // Returns the names of main and of the defs.
@@ -92,7 +89,7 @@ fn def_names<'a>(alloc: Global, words: &[Word<'a>]) -> Result<Vec<&'a [u8]>, All
         if is_name {
             names.push(word.bytes)?;
         }
-        is_name = word.is(b"def");
+        is_name = word.is("def");
     }
     Ok(names)
 }
@@ -104,19 +101,19 @@ fn spawns_of(alloc: Global, words: &[Word<'_>], names: &[&[u8]]) -> Result<Vec<S
     let mut begun: usize = 0;
     let mut is_name = false;
     for word in words {
-        if is_name && let Some(of) = names.iter().position(|name| word.is(name)) {
+        if is_name && let Some(of) = names.iter().position(|name| word.bytes == *name) {
             spawns.push(Spawn {
                 by,
                 of,
                 at: word.at,
             })?;
         }
-        is_name = word.is(b"when");
-        if word.is(b"def") {
+        is_name = word.is("when");
+        if word.is("def") {
             begun = begun.saturating_add(1);
             by = begun;
         }
-        if word.is(b"main") {
+        if word.is("main") {
             by = 0;
         }
     }
@@ -164,21 +161,16 @@ fn leads(onward: &[Vec<bool>], from: usize, to: usize) -> bool {
 }
 
 // Writes about a def that spawns itself again, at once or by way of another one.
-fn put_again(
-    lines: &mut Lines,
-    text: &[u8],
-    names: &[&[u8]],
-    spawn: Spawn,
-) -> Result<(), AllocError> {
+fn put_again(said: &mut Said, text: &[u8], names: &[&[u8]], spawn: Spawn) -> Told {
     let by = Part::Quote(names.get(spawn.by).copied().unwrap_or(b""));
     let of = Part::Quote(names.get(spawn.of).copied().unwrap_or(b""));
     let line = Part::Number(line_number(text, spawn.at));
     if spawn.by == spawn.of {
         let words =
             "{} may spawn itself too often, by the `when` on line {}: check the condition that ends it";
-        return lines.put(words, &[by, line]);
+        return said.tell(words, &[by, line]);
     }
     let words =
         "{} may spawn itself too often through {}, by the `when` on line {}: check the condition that ends it";
-    lines.put(words, &[by, of, line])
+    said.tell(words, &[by, of, line])
 }

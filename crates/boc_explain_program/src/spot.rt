@@ -1,10 +1,40 @@
-// A place in the words of a program text, and the lines of an explanation.
+// A place in the words of a program text: its tokens, as bytes.
 
-use boc_reader::read_tokens;
-use boc_said::said::{Part, Said};
-use boc_said::tokens::Word;
+use boc_reader::{Token, read_tokens};
+use boc_said::said::Part;
 use boc_said::view::line_number;
 use std::alloc::{AllocError, Global};
+
+/// A token of a text, and the place of its first byte.
+#[derive(Clone, Copy)]
+pub(crate) struct Word<'a> {
+    pub(crate) bytes: &'a [u8],
+    pub(crate) at: usize,
+    token: Token<'a>,
+}
+
+impl Word<'_> {
+    /// Says whether it is one of these, separated by blanks.
+    pub(crate) fn is(&self, these: &str) -> bool {
+        is_among(self.bytes, these)
+    }
+
+    /// Says whether it is a name, and no keyword.
+    pub(crate) fn is_name(&self) -> bool {
+        matches!(self.token, Token::Name(_))
+    }
+
+    /// Says whether it is a keyword.
+    pub(crate) fn is_keyword(&self) -> bool {
+        matches!(self.token, Token::Keyword(_))
+    }
+}
+
+/// Returns whether a word is one of these, separated by blanks. Where a text has no word, that one is empty.
+pub(crate) fn is_among(word: &[u8], these: &str) -> bool {
+    let mut these = these.as_bytes().split(|byte| *byte == b' ');
+    these.any(|one| one == word)
+}
 
 /// A place in a text.
 #[derive(Clone, Copy)]
@@ -47,6 +77,27 @@ impl<'a> Spot<'a> {
         }
     }
 
+    /// Says whether the word that follows the place after this number of words is one of these.
+    pub(crate) fn follows(self, skipped: usize, these: &str) -> bool {
+        is_among(self.after(skipped), these)
+    }
+
+    /// Says whether the word before the place, with this number of words between, is one of these.
+    pub(crate) fn precedes(self, skipped: usize, these: &str) -> bool {
+        is_among(self.before(skipped), these)
+    }
+
+    /// Says whether the last word before the place that is one of these is this one.
+    pub(crate) fn is_behind(self, word: &str, these: &str) -> bool {
+        let last = self.front.iter().rev().find(|before| before.is(these));
+        last.is_some_and(|last| last.is(word))
+    }
+
+    /// Says whether the word that follows the place after this number of words is a keyword.
+    pub(crate) fn has_keyword(self, skipped: usize) -> bool {
+        self.rest.get(skipped).is_some_and(Word::is_keyword)
+    }
+
     /// Returns the line of this byte of the text, as a part of a line.
     pub(crate) fn line(self, at: usize) -> Part<'a> {
         Part::Number(line_number(self.text, at))
@@ -59,40 +110,11 @@ pub(crate) fn words_of(alloc: Global, text: &[u8]) -> Result<Vec<Word<'_>>, Allo
     let Some(tokens) = read_tokens(alloc, text)? else {
         return Ok(words);
     };
-    for token in &tokens {
-        if let Some(bytes) = text.get(token.at..token.end) {
-            words.push(Word {
-                bytes,
-                at: token.at,
-            })?;
+    for placed in &tokens {
+        if let Some(bytes) = text.get(placed.at..placed.end) {
+            let (at, token) = (placed.at, placed.token);
+            words.push(Word { bytes, at, token })?;
         }
     }
     Ok(words)
-}
-
-/// The lines of an explanation.
-#[derive(Drop)]
-pub(crate) struct Lines {
-    pub(crate) alloc: Global,
-    pub(crate) said: Said,
-}
-
-impl Lines {
-    /// Appends a line of these words.
-    pub(crate) fn words(&mut self, words: &str) -> Result<(), AllocError> {
-        self.said.words(words)
-    }
-
-    /// Appends a line of these words, with one of the parts for each `{}`.
-    pub(crate) fn put<'a>(&mut self, words: &'a str, parts: &[Part<'a>]) -> Result<(), AllocError> {
-        let mut line = Vec::new(self.alloc);
-        let mut parts = parts.iter();
-        for words in words.split("{}") {
-            line.push(Part::Words(words))?;
-            if let Some(part) = parts.next() {
-                line.push(*part)?;
-            }
-        }
-        self.said.line(&line)
-    }
 }

@@ -1,7 +1,6 @@
 // Which text a fault is in.
 
-use crate::said::{Part, Said};
-use std::alloc::AllocError;
+use crate::said::{Part, Said, Told};
 
 /// The bytes of a text, as far as they were kept.
 #[derive(Clone, Copy, Debug)]
@@ -46,29 +45,28 @@ impl Place<'_> {
 
 /// Returns the words after a command's name that say where its program and its record come from: as a sentence, and as an example. The program, or else the
 /// record, is in the file next to the input.
-pub fn pair_words(beside_is_program: bool) -> (&'static str, &'static str) {
+pub fn pair_words(beside_is_program: bool) -> [&'static str; 2] {
     if beside_is_program {
-        (
+        [
             " reads the record, and --program its program: ",
             " --program PROGRAM RECORD",
-        )
+        ]
     } else {
-        (
+        [
             " reads the program, and --record its record: ",
             " --record RECORD PROGRAM",
-        )
+        ]
     }
 }
 
-/// Appends which of a program and its record goes where, for a text that looks like the other one.
-pub fn put_pair<'a>(
-    said: &mut Said,
-    place: Place<'a>,
-    found: &'a str,
-    wanted: &'a str,
-    swapped: bool,
-) -> Result<(), AllocError> {
-    let (reads, takes) = pair_words(matches!(place.beside, Some(Beside::Program)));
+/// Appends which of a program and its record goes where, for a text that looks like a record instead of the program, or else like a program.
+pub fn put_pair(said: &mut Said, place: Place<'_>, is_record: bool) -> Told {
+    let (found, wanted, swapped) = if is_record {
+        ("record", "program", looks_like_program(place.other))
+    } else {
+        ("program", "record", looks_like_record(place.other))
+    };
+    let [reads, takes] = pair_words(place.beside == Some(Beside::Program));
     // The commands of `boc-view` begin with its name.
     let is_of_view = place.command.as_bytes().starts_with(b"boc-view");
     let program = if is_of_view { "" } else { "boc " };
@@ -130,7 +128,7 @@ pub fn is_first_word(word: &[u8]) -> bool {
 }
 
 /// Reports that a text has no bytes.
-pub fn put_nothing(said: &mut Said, text: Text<'_>) -> Result<(), AllocError> {
+pub fn put_nothing(said: &mut Said, text: Text<'_>) -> Told {
     said.words(if text.name.is_some() {
         "the file is empty"
     } else {
@@ -139,7 +137,7 @@ pub fn put_nothing(said: &mut Said, text: Text<'_>) -> Result<(), AllocError> {
 }
 
 /// Reports that names stand where a program or a record is wanted.
-pub fn put_names_file(said: &mut Said) -> Result<(), AllocError> {
+pub fn put_names_file(said: &mut Said) -> Told {
     said.words(
         "this looks like a names file; pass it with --names, and a program or a record as FILE",
     )

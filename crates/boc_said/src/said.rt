@@ -22,6 +22,9 @@ pub const MOST_QUOTE: usize = 64;
 
 const DIGITS: &[u8] = b"0123456789ABCDEF";
 
+/// What a function that appends lines returns.
+pub type Told = Result<(), AllocError>;
+
 /// A part of a line.
 #[derive(Clone, Copy)]
 pub enum Part<'a> {
@@ -51,7 +54,7 @@ fn shown(byte: u8, is_quoted: bool) -> char
 }
 
 // Appends bytes as they are shown, as far as there is space for them.
-fn put(line: &mut String, bytes: &[u8], is_quoted: bool) -> Result<(), AllocError>
+fn put(line: &mut String, bytes: &[u8], is_quoted: bool) -> Told
     requires { IsShort MOST_WIDTH (string_bytes line.old) }
     ensures { IsShort MOST_WIDTH (string_bytes line.new) }
 {
@@ -64,7 +67,7 @@ fn put(line: &mut String, bytes: &[u8], is_quoted: bool) -> Result<(), AllocErro
 }
 
 // Appends a part of a line, as far as there is space for it.
-fn put_part(line: &mut String, part: Part<'_>) -> Result<(), AllocError>
+fn put_part(line: &mut String, part: Part<'_>) -> Told
     requires { IsShort MOST_WIDTH (string_bytes line.old) }
     ensures { IsShort MOST_WIDTH (string_bytes line.new) }
 {
@@ -73,8 +76,7 @@ fn put_part(line: &mut String, part: Part<'_>) -> Result<(), AllocError>
         Part::Number(number) => put(line, Buffer::new().format(number).as_bytes(), false),
         Part::Hex(byte) => {
             let (high, low) = (usize::from(byte >> 4), usize::from(byte & 15));
-            put(line, b"0x", false)?;
-            put(line, &[DIGITS[high], DIGITS[low]], false)
+            put(line, &[b'0', b'x', DIGITS[high], DIGITS[low]], false)
         }
         Part::Many(number, name) => {
             put(line, Buffer::new().format(number).as_bytes(), false)?;
@@ -85,15 +87,12 @@ fn put_part(line: &mut String, part: Part<'_>) -> Result<(), AllocError>
         Part::Quote(bytes) => {
             put(line, b"`", false)?;
             put(line, &bytes[..bytes.len().min(MOST_QUOTE)], true)?;
-            put(
-                line,
-                if bytes.len() > MOST_QUOTE {
-                    b"..`"
-                } else {
-                    b"`"
-                },
-                false,
-            )
+            let end: &[u8] = if bytes.len() > MOST_QUOTE {
+                b"..`"
+            } else {
+                b"`"
+            };
+            put(line, end, false)
         }
         Part::Bytes(bytes) => put(line, bytes, false),
     }
@@ -120,7 +119,7 @@ fn formed(alloc: Global, begin: &str, words: &str, parts: &[Part<'_>]) -> Result
 }
 
 // Appends lines to a text, each after its indent.
-fn put_lines(text: &mut String, lines: &[String]) -> Result<(), AllocError>
+fn put_lines(text: &mut String, lines: &[String]) -> Told
     requires lines { All (λ l. IsShort MOST_WIDTH (string_bytes l)) lines.now }
     requires text { AreLines (string_bytes text.old) }
     ensures { OnOk result (AreLines (string_bytes text.new)) }
@@ -132,7 +131,7 @@ fn put_lines(text: &mut String, lines: &[String]) -> Result<(), AllocError>
 }
 
 // Appends a line to a text, after its indent.
-fn put_line(text: &mut String, line: &str) -> Result<(), AllocError>
+fn put_line(text: &mut String, line: &str) -> Told
     requires line { IsShort MOST_WIDTH line.now }
     requires text { AreLines (string_bytes text.old) }
     ensures { OnOk result (AreLines (string_bytes text.new)) }
@@ -161,7 +160,8 @@ fn headed(alloc: Global, name: &str, place: &str, message: &str) -> Result<Strin
 /// The lines so far. Each is printable ASCII, and has at most 160 bytes with its indent.
 #[derive(Drop)]
 pub struct Said {
-    alloc: Global,
+    /// Where they are allocated.
+    pub alloc: Global,
     // The lines without their indents, and which of them is the first message.
     lines: Vec<String>,
     first: Option<usize>,
@@ -212,35 +212,31 @@ impl Said {
     }
 
     /// Sets what the lines are about: a faulty line or word.
-    pub fn set_subject(&mut self, subject: &[u8]) -> Result<(), AllocError> {
+    pub fn set_subject(&mut self, subject: &[u8]) -> Told {
         self.subject = formed(self.alloc, "", "{}: ", &[Part::Quote(subject)])?;
         Ok(())
     }
 
     /// Appends a line about the subject, which it begins with, as `tell` does.
-    pub fn about(&mut self, words: &str, parts: &[Part<'_>]) -> Result<(), AllocError> {
+    pub fn about(&mut self, words: &str, parts: &[Part<'_>]) -> Told {
         let line = formed(self.alloc, &self.subject, words, parts)?;
         self.message(line)
     }
 
-    /// Appends a line of these parts. The first one of a named file comes before the lines that are shown of it, and begins with its place there.
-    pub fn line(&mut self, parts: &[Part<'_>]) -> Result<(), AllocError> {
-        self.tell("", parts)
+    /// Appends a line of these words, as `tell` does.
+    pub fn words(&mut self, words: &str) -> Told {
+        self.tell(words, &[])
     }
 
-    /// Appends a line of these words, as `line` does.
-    pub fn words(&mut self, words: &str) -> Result<(), AllocError> {
-        self.tell("", &[Part::Words(words)])
-    }
-
-    /// Appends a line of these words, with a part instead of each `{}`, and the parts that are left after them, as `line` does.
-    pub fn tell(&mut self, words: &str, parts: &[Part<'_>]) -> Result<(), AllocError> {
+    /// Appends a line of these words, with a part instead of each `{}`, and the parts that are left after them. The first one of a named file comes before
+    /// the lines that are shown of it, and begins with its place there.
+    pub fn tell(&mut self, words: &str, parts: &[Part<'_>]) -> Told {
         let line = formed(self.alloc, "", words, parts)?;
         self.message(line)
     }
 
     // Appends a line that is a message.
-    fn message(&mut self, line: String) -> Result<(), AllocError>
+    fn message(&mut self, line: String) -> Told
         requires { IsShort MOST_WIDTH (string_bytes line) }
     {
         if self.first.is_none() {
@@ -251,7 +247,7 @@ impl Said {
     }
 
     /// Appends a line of these parts, which shows a text. What doesn't fit in a line is left out.
-    pub fn shown(&mut self, parts: &[Part<'_>]) -> Result<(), AllocError> {
+    pub fn shown(&mut self, parts: &[Part<'_>]) -> Told {
         let line = formed(self.alloc, "", "", parts)?;
         self.lines.push(line)?;
         Ok(())

@@ -1,7 +1,6 @@
 // A place in a text, as it is shown: its line, and a caret under it.
 
-use crate::said::{Part, Said};
-use std::alloc::AllocError;
+use crate::said::{Part, Said, Told};
 
 // How much of a line is shown before a place, and how much from it on, each with two dots where it is cut. They are 120 bytes together.
 const MOST_FRONT: usize = 70;
@@ -14,7 +13,7 @@ const DOTS: &[u8] = b"..";
 const BLANKS: &[u8] = &[b' '; MOST_FRONT];
 
 /// Puts the line in which a byte is, cut to 120 bytes round the place, and a line with a caret under it.
-pub fn put_place(said: &mut Said, text: &[u8], at: usize) -> Result<(), AllocError> {
+pub fn put_place(said: &mut Said, text: &[u8], at: usize) -> Told {
     let (front, back) = text.split_at(at.min(text.len()));
     let (front, back) = (last_line(front), first_line(back));
     said.set_place(line_number(text, at), front.len().saturating_add(1));
@@ -29,8 +28,7 @@ pub fn put_place(said: &mut Said, text: &[u8], at: usize) -> Result<(), AllocErr
     } else {
         (back, b"".as_slice())
     };
-    let line = [before, front, back, behind].map(Part::Bytes);
-    said.shown(&line)?;
+    said.shown(&[before, front, back, behind].map(Part::Bytes))?;
     let column = before.len().saturating_add(front.len());
     let (blanks, _) = BLANKS.split_at(column.min(BLANKS.len()));
     said.shown(&[Part::Bytes(blanks), Part::Words("^")])
@@ -44,10 +42,7 @@ pub fn last_line(text: &[u8]) -> &[u8] {
 /// Returns what is before the first line feed, and of a carriage return before it.
 pub fn first_line(text: &[u8]) -> &[u8] {
     let line = text.split(|byte| *byte == b'\n').next().unwrap_or(text);
-    match line {
-        [begin @ .., b'\r'] => begin,
-        _ => line,
-    }
+    line.strip_suffix(b"\r").unwrap_or(line)
 }
 
 /// Returns the number of the line in which a byte is, counted from 1.

@@ -82,7 +82,7 @@ fn name_of(alloc: Global, path: Option<&str>) -> Result<Option<String>, AllocErr
 pub fn drawn_at_depth(schedule: &Schedule) -> Option<AtDepth> {
     let (workers, depth) = match schedule {
         Schedule::Drawn { workers, depth, .. } => (*workers, *depth),
-        Schedule::Threads(_) => return None,
+        Schedule::Threads(_) | Schedule::Timed(_) => return None,
     };
     Some(AtDepth {
         workers: workers.number(),

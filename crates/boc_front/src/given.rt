@@ -10,6 +10,14 @@ const OF_RECORD: &str =
 const OF_FILE: &str =
     "boc: note: the run is that of --record FILE, and the program is not run again: --workers, --seed and --depth have no effect\n";
 
+// What is noted of a timed run where a record came in.
+const TIMED_OF_RECORD: &str =
+    "boc: note: the input is a record, which is not run again: --timed and --workers have no effect\n";
+
+// What is noted of a timed run where a record is next to the program.
+const TIMED_OF_FILE: &str =
+    "boc: note: the run is that of --record FILE, and the program is not run again: --timed and --workers have no effect\n";
+
 // What is noted where there is one worker.
 const OF_ONE: &str =
     "boc: note: one worker leaves nothing to draw: --seed and --depth have no effect; give --workers at least 2\n";
@@ -64,12 +72,26 @@ pub fn idle_note(
     given: Given,
     is_record: bool,
 ) -> &'static str {
+    let is_beside = matches!(file, Some(RunFile::Record(_)));
+    if let Schedule::Timed(_) = schedule {
+        return if is_record {
+            TIMED_OF_RECORD
+        } else if is_beside {
+            TIMED_OF_FILE
+        } else {
+            ""
+        };
+    }
     let is_drawn = given.seed || given.depth;
     let is_given = given.workers || is_drawn;
-    match (file, schedule) {
-        _ if is_given && is_record => OF_RECORD,
-        (Some(RunFile::Record(_)), _) if is_given => OF_FILE,
-        (_, Schedule::Drawn { workers, .. }) if is_drawn && workers.number() == 1 => OF_ONE,
+    if is_given && is_record {
+        return OF_RECORD;
+    }
+    if is_given && is_beside {
+        return OF_FILE;
+    }
+    match schedule {
+        Schedule::Drawn { workers, .. } if is_drawn && workers.number() == 1 => OF_ONE,
         _ => "",
     }
 }

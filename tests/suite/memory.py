@@ -71,6 +71,10 @@ def runs(program):
     yield ["run", "--workers", "2"], text, None
     yield ["run", "--seed", "9"], text, done(record)
     yield ["run", "--workers", "4", "--seed", "9"], FAULTS, program.run(["run", "--workers", "4", "--seed", "9"], FAULTS)
+    yield ["run", "--timed", "--workers", "1"], text, done(record)
+    yield ["time", "--timed", "--workers", "2", "--p", "2"], text, done((PROFILE + GREEDY + GREEDY.replace("greedy", "timed")).encode())
+    yield ["run", "--timed"], FAULTS, program.run(["run", "--timed"], FAULTS)
+    yield ["why", "--timed", "--workers", "1"], text, done(TRANSFER.replace("span 9\n", "span 9   end 11 on 1 worker\n", 1).encode())
     yield ["values"], FAULTS, done(serial_run(Program(FAULTS), 65535).values_text(), NOTED)
     yield ["profile"], FAULTED, done(program.run(["profile", "--quiet"], FAULTED).output, RECORD_NOTED)
     yield ["time", "--workers", "3", "--p", "2"], text, done((PROFILE + GREEDY).encode())
@@ -152,7 +156,7 @@ def build(library):
 def fault_of_refusals(program, library, words, source, expected):
     """Goes on to the number of the first request that the program doesn't make."""
     is_run = words[0] in ("why", "cowns") and not source.startswith(b"boc") and "--record" not in words
-    in_threads = words[0] in ("run", "time") and "--seed" not in words or is_run
+    in_threads = (words[0] in ("run", "time") or is_run) and not {"--seed", "--timed"} & set(words)
     fault_of_whole = functools.partial(fault_of, expected) if expected else functools.partial(fault_of_transfer, program)
     told = []
     for request in range(1, MOST_REQUESTS):

@@ -7,14 +7,14 @@ _boc_options() {
     '') echo -h --help -V --version ;;
     values) echo -h --help --record --quiet ;;
     check) echo -h --help --program ;;
-    run) echo -h --help -w --workers --seed --depth --quiet ;;
+    run) echo -h --help -w --workers --seed --depth --timed --quiet ;;
     profile) echo -h --help -p --p --shared-reads --no-plan --quiet ;;
-    time) echo -h --help -w --workers --seed --depth -p --p --shared-reads --no-plan --quiet ;;
+    time) echo -h --help -w --workers --seed --depth --timed -p --p --shared-reads --no-plan --quiet ;;
     whatif) echo -h --help --without --program --names -p --p --shared-reads --short --no-plan ;;
     curve) echo -h --help -p --p --shared-reads ;;
     sweep) echo -h --help --cowns -p --p --shared-reads --best --spawns ;;
-    why) echo -h --help -w --workers --seed --depth --record --names -p --p --shared-reads --all --quiet ;;
-    cowns) echo -h --help -w --workers --seed --depth --record --names --top --shared-reads --quiet ;;
+    why) echo -h --help -w --workers --seed --depth --timed --record --names -p --p --shared-reads --all --quiet ;;
+    cowns) echo -h --help -w --workers --seed --depth --timed --record --names --top --shared-reads --quiet ;;
     outcomes) echo -h --help --runs --seed -w --workers --depth ;;
     esac
 }

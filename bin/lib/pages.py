@@ -11,10 +11,14 @@ import tomllib
 TABLE = "bin/lib/pages.toml"
 FROM = f"Written by bin/pages from {TABLE}. Change that, and run it again."
 
+# The one place of the sources that has the version.
+VERSION_SOURCE = "crates/boc_words/src/version.rt"
+VERSION = re.compile(r'"(boc [0-9.]+)\\n')
+
 FORM = re.compile(r"(?:(-\w), )?(--[\w-]+)(?: <(\w+)>)?")
 NAME = re.compile(r"--[a-z-]+")
 OPERAND = re.compile(r"[A-Z]+")
-CHOICE = re.compile(r"\[[^][]*\|[^][]*\]")
+CHOICE = re.compile(r"\[(?:[^][]|\[[^][]*\])*\|(?:[^][]|\[[^][]*\])*\]")
 
 # Options that stand alone: they print something, and nothing else is done.
 ALONE = {"--help", "--version"}
@@ -182,8 +186,8 @@ class Command:
 
 
 class Program:
-    def __init__(self, called, table):
-        self.called, self.table = called, table
+    def __init__(self, called, table, version):
+        self.called, self.table, self.version = called, table, version
         self.function = called.replace("-", "_")
         options = [Option(*(it or "" for it in FORM.fullmatch(form).groups()), line) for form, line in table["options"].items()]
         self.options = {it.name: it for it in options}
@@ -196,16 +200,26 @@ class Program:
 
 
 def has_both(usage, one, other):
-    """Whether a usage has both options, and not for a choice."""
+    """Whether a usage has both options, and not one or the other."""
     def names_both(text):
         return {one, other} <= set(NAME.findall(text))
 
-    return names_both(usage) and not any(map(names_both, CHOICE.findall(usage)))
+    def is_between(choice):
+        return names_both(choice) and not any(map(names_both, choice.split("|")))
+
+    return names_both(usage) and not any(map(is_between, CHOICE.findall(usage)))
+
+
+def version_of(top):
+    """The version of the programs, such as `boc 0.2.0`, as the sources have it."""
+    with open(os.path.join(top, VERSION_SOURCE), encoding="utf-8") as file:
+        return VERSION.search(file.read())[1]
 
 
 def read_programs(top):
+    version = version_of(top)
     with open(os.path.join(top, TABLE), "rb") as file:
-        return [Program(called, table) for called, table in tomllib.load(file).items()]
+        return [Program(called, table, version) for called, table in tomllib.load(file).items()]
 
 
 def made(top):
@@ -310,7 +324,7 @@ def page(program):
         "EXAMPLES": [".nf", roff(table["examples"].strip()), ".fi"],
         "SEE ALSO": [roff(table["see_also"])],
     }
-    head = [f'.\\" {FROM}', f".TH {roff(program.called.upper())} 1"]
+    head = [f'.\\" {FROM}', f'.TH {roff(program.called.upper())} 1 "" "{program.version}" "User Commands"']
     return "\n".join([*head, *(line for name, part in parts.items() for line in (f".SH {name}", *part)), ""])
 
 

@@ -17,6 +17,7 @@ pub mod OneAnswer
 pub mod NoProgram
 pub mod OneNaming
 pub mod OneTimes
+pub mod OneNote
 pub mod OneTold
 pub mod OneChange
 pub mod BesideFiles

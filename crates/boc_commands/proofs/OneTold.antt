@@ -6,6 +6,7 @@ use Rattle.boc_runs.specs.Records.{IsRecord, Recorded}
 use Rattle.boc_runs.specs.Rows.{IsRows}
 use Rattle.boc_rules.proofs.Finished.{is_rows}
 use Rattle.boc_rules.proofs.Next.{well_log}
+use Rattle.boc_plans.specs.declared.sharing.Sharing.{Sharing}
 use Rattle.boc_plans.specs.Plans.{IsEnd}
 use Rattle.boc_plans.specs.Seen.{seen}
 use Rattle.boc_plans.proofs.Seeing.{rows_seen}
@@ -27,10 +28,12 @@ use Rattle.boc_words.specs.declared.asked.AskedWhy.{AskedWhy}
 use Rattle.boc_words.specs.declared.asked.RunFile.{RunFile}
 use Rattle.boc_commands.specs.CownsAnswers.{AreTold}
 use Rattle.boc_commands.specs.NamedRuns.{HasTimes, IsNamedRun}
-use Rattle.boc_commands.specs.Notes.{AreWanted, TellsCowns, TellsWhy, notes_of_rows}
+use Rattle.boc_commands.specs.Notes.{AreWanted, AreWhyNotes, TellsCowns, TellsWhy, notes_of_rows}
+use Rattle.boc_commands.specs.TimedNotes.{workers_compared}
 use Rattle.boc_busy.specs.declared.timed.TimedRows.{TimedRows}
 use Rattle.boc_commands.specs.TimedAnswers.{end_of_times}
 use Rattle.boc_commands.specs.WhyAnswers.{IsAskedLine, IsGreedyLine, IsTold}
+use Rattle.boc_commands.proofs.OneNote.{one_note}
 use Rattle.boc_commands.proofs.OneTimes.{one_ends}
 use Rattle.boc_commands.proofs.OneNaming.{one_named_run, run_is_record}
 
@@ -94,19 +97,31 @@ one_text_of_notes false rows names others same notes other a b =
     let text : notes_of_rows (texts_of names.rows.items) rows ≡ notes_of_rows (texts_of others.rows.items) rows = λ i. notes_of_rows (same.rows i) rows in
     a ∙ text ∙ sym b
 
+one_text_of_why : (sharing : Sharing) (compared : Option ℕ) (input : List ℕ) (quiet : Bool) (rows : List Row) (names others : Names)
+    → CallTheSame names others → (notes other : List ℕ) → AreWanted quiet (AreWhyNotes sharing compared input (texts_of names.rows.items) rows) notes
+    → AreWanted quiet (AreWhyNotes sharing compared input (texts_of others.rows.items) rows) other → notes ≡ other
+one_text_of_why sharing compared input true rows names others same notes other a b = a ∙ sym b
+one_text_of_why sharing compared input false rows names others same notes other a b =
+    let note : a.other ≡ b.other = one_note input compared sharing rows a.other b.other a.other_is b.other_is in
+    let text : notes_of_rows (texts_of names.rows.items) rows ++ a.other ≡ notes_of_rows (texts_of others.rows.items) rows ++ b.other =
+    λ i. notes_of_rows (same.rows i) rows ++ note i in
+    a.notes_are ∙ text ∙ sym b.notes_are
+
 -- ---- the answers
 
 pub one_why_answer : (asked : AskedWhy) (file : Option RunFile) (bytes input notes output others other : List ℕ)
     (one : TellsWhy asked file bytes notes input output) (another : TellsWhy asked file bytes others input other)
     → one.answer.recorded ≡ another.answer.recorded → (notes ≡ others) × (output ≡ other)
 one_why_answer asked file bytes input notes output others other one another same =
+    let compared : Option ℕ = workers_compared asked.schedule asked.workers file in
     let a = one.answer in
     let b = another.answer in
     let named : IsNamedRun asked.schedule file bytes input b.recorded a.names =
     subst (λ (r : Recorded). IsNamedRun asked.schedule file bytes input r a.names) same a.named in
     let called : CallTheSame a.names b.names = one_named_run asked.schedule file bytes input b.recorded a.names b.names named b.named in (
-      one_text_of_notes asked.quiet b.recorded.rows a.names b.names called notes others
-          (subst (λ (r : Recorded). AreWanted asked.quiet (λ told. told ≡ notes_of_rows (texts_of a.names.rows.items) r.rows) notes) same one.noted)
+      one_text_of_why asked.sharing compared input asked.quiet b.recorded.rows a.names b.names called notes others
+          (subst (λ (r : Recorded). AreWanted asked.quiet (AreWhyNotes asked.sharing compared input (texts_of a.names.rows.items) r.rows) notes) same
+          one.noted)
           another.noted,
       one_told b.recorded.rows (rows_are b.recorded (run_is_record asked.schedule file bytes input b.recorded b.names b.named)) a.names b.names called asked
           a.times b.times (one_ends asked.schedule file input b.recorded.rows a.times b.times

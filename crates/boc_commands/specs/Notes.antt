@@ -23,6 +23,7 @@ use Rattle.boc_commands.specs.CownsAnswers.{IsCownsAnswer}
 use Rattle.boc_commands.specs.Promises.{IsRunAnswer, IsTimeAnswer}
 use Rattle.boc_commands.specs.Schedules.{AreTimesText, IsScheduledText}
 use Rattle.boc_commands.specs.TimedAnswers.{times_text}
+use Rattle.boc_commands.specs.TimedNotes.{IsNoteFor, workers_compared}
 use Rattle.boc_words.specs.declared.schedule.Schedule.{Schedule}
 use Rattle.boc_commands.specs.WhyAnswers.{IsWhyAnswer}
 
@@ -93,10 +94,17 @@ pub record TellsProfile (sharing : Sharing) (asked : AskedPlans) (quiet : Bool) 
   pub answer : IsProfileAnswer sharing asked input output
   pub noted : AreWanted quiet (λ told. told ≡ notes_of_rows [] answer.recorded.rows) notes
 
+-- the notes on rows that are called so, and behind them the one on the span of the timed run by so many workers with which theirs is compared, if it is
+pub record AreWhyNotes (sharing : Sharing) (compared : Option ℕ) (input : Text) (called : List Text) (rows : List Row) (notes : Text) : Type 0 where
+  pub other : Text
+  pub other_is : IsNoteFor input compared sharing rows other
+  pub notes_are : notes ≡ notes_of_rows called rows ++ other
+
 -- why the rows of a run take as long as they do, and the notes on them, by their names
 pub record TellsWhy (asked : AskedWhy) (file : Option RunFile) (bytes notes input output : Text) : Type 0 where
   pub answer : IsWhyAnswer asked file bytes input output
-  pub noted : AreWanted asked.quiet (λ told. told ≡ notes_of_rows (texts_of answer.names.rows.items) answer.recorded.rows) notes
+  pub noted : AreWanted asked.quiet (AreWhyNotes asked.sharing (workers_compared asked.schedule asked.workers file) input
+      (texts_of answer.names.rows.items) answer.recorded.rows) notes
 
 -- the cowns of a run, and the same notes on its rows
 pub record TellsCowns (asked : AskedCowns) (file : Option RunFile) (bytes notes input output : Text) : Type 0 where

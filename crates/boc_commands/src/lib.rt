@@ -20,6 +20,7 @@ mod report;
 mod run;
 mod sweep;
 mod time;
+pub mod timed_note;
 mod values;
 mod values_after;
 mod whatif;

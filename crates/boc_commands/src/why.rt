@@ -1,17 +1,20 @@
 // The command `why`.
 
-ghost use Rattle.std.specs.Prelude.{◌≡◌, ◌<◌, ◌++◌, IfOk, MatchResult, OnOk};
+ghost use Rattle.std.specs.Prelude.{◌≡◌, ◌<◌, ◌++◌, ℕ, List, Option, IfOk, MatchResult, OnOk};
 ghost use Rattle.std.specs.Option.{option_map};
 ghost use Rattle.boc_plans.specs.Seen.{seen};
 ghost use Rattle.boc_commands.specs.Commands.{AnswersInput, Leaves, CountsSource, CountsSink};
 ghost use Rattle.boc_commands.specs.NamedRuns.{AreFew, IsNamedRun, IsOfNamedRun, IsShort, RefusesNamedRun};
-ghost use Rattle.boc_commands.specs.Notes.{TellsWhy};
+ghost use Rattle.boc_names.specs.Names.{texts_of};
+ghost use Rattle.boc_commands.specs.Notes.{AreWanted, AreWhyNotes, TellsWhy};
 ghost use Rattle.boc_commands.specs.TimedAnswers.{end_of_times};
+ghost use Rattle.boc_commands.specs.TimedNotes.{IsOther, workers_compared};
 ghost use Rattle.boc_commands.specs.WhyAnswers.{IsTold, PutsLine};
 
 use crate::fault::Fault;
 use crate::named_run::{NamedRun, Origin, named_run, taken};
 use crate::notes::{Told, notes_on};
+use crate::timed_note::{Other, other_run, timed_note_on};
 use boc_busy::TimedRows;
 use boc_greedy::greedy;
 use boc_plans::sharing::Sharing;
@@ -30,7 +33,8 @@ use std::thread::Threads;
 /// Reads a program, which it runs, or the text of a record, as its first word says, and writes why the rows of the run take as long as they do: the chain that
 /// holds them back, its ticks by def and by link, what would move the end forward, and a lower bound for any order on the cowns. A last line reports on the
 /// greedy plan for the given number of workers, if that is requested. For a program whose workers take ticks as time, the first line has the end of the run.
-/// `bytes` are those of the file given with the input, if there is one. The notes replace those in `notes`.
+/// `bytes` are those of the file given with the input, if there is one. The notes replace those in `notes`. If one thread runs a program, with no record of
+/// its run, and plans are for some workers, a last note has the span of the timed run by as many workers, at most 16, where that is another one.
 ///
 /// A program is refused as by `run`, a record as by `profile`, and a file as its kind is. Nothing is written unless the whole answer is ready. After a failing
 /// write a beginning of it went out. Plans are made in threads. The text of a record is taken into memory as a whole. `progress` receives how far
@@ -81,15 +85,49 @@ fn why_told<R: Threads + Wait + Sync, G: Gate>(
         (λ told. TellsWhy asked file.now bytes.items told.notes.items text.items told.text.items × IsShort text.items)
         (IsOfNamedRun G.always_on asked.schedule file.now bytes.items text.items) }
 {
+    let other = other_asked(alloc, &asked, file, &text)?;
     let origin = Origin {
         schedule: asked.schedule,
         file,
         bytes,
     };
     let run = named_run(rt, alloc, text, origin, gate, progress)?;
-    let notes = notes_on(alloc, asked.quiet, &run.rows, &run.names.rows)?;
+    let notes = why_notes(alloc, asked.quiet, asked.sharing, &run, &other, progress)?;
     let text = told(rt, alloc, &run, asked)?;
     Ok(Told { text, notes })
+}
+
+// Returns the run with which the one of an input is compared, if any is.
+fn other_asked(
+    alloc: Global,
+    asked: &AskedWhy,
+    file: &Option<RunFile>,
+    text: &[u8],
+) -> Result<Option<Other>, AllocError>
+    ensures { IfOk result (IsOther text.now (workers_compared asked.now.schedule asked.now.workers file.now)) }
+{
+    other_run(alloc, asked.schedule, asked.workers, file, text)
+}
+
+// Returns the notes on a run, where they are wanted, with the one on the other run, if it is compared with one.
+fn why_notes(
+    alloc: Global,
+    quiet: bool,
+    sharing: Sharing,
+    run: &NamedRun,
+    other: &Option<Other>,
+    progress: &mut dyn Progress,
+) -> Result<Vec<u8>, AllocError>
+    ensures { IfOk result (λ notes. (input : List ℕ) (compared : Option ℕ) → IsOther input compared other.now
+        → AreWanted quiet (AreWhyNotes sharing compared input (texts_of run.now.names.rows.items) run.now.rows) notes.items) }
+{
+    if quiet {
+        return Ok(Vec::new(alloc));
+    }
+    let mut notes = notes_on(alloc, false, &run.rows, &run.names.rows)?;
+    let note = timed_note_on(alloc, other, sharing, &run.rows, progress)?;
+    notes.extend_from_slice(&note)?;
+    Ok(notes)
 }
 
 // Returns what is reported of why the rows of a run take as long as they do, in their names.

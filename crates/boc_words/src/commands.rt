@@ -236,6 +236,9 @@ Output:
       With --p. No worker of this plan is idle while a row can start. E is at
       most B, which is work / P, rounded down, plus the span.
 
+With --p, if one thread runs the program, a note on standard error says if the
+timed run on P workers, at most 16, has another span: look at it with --timed.
+
 Four or more rows of one def that follow each other on the chain are folded into
 one line, unless --all is given. The other lists stop after 20 lines.
 

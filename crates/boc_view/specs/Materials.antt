@@ -14,6 +14,7 @@ use Rattle.boc_cowns.specs.Hot.{IsHotCowns}
 use Rattle.boc_pictures.specs.Subjects.{IsSubject}
 use Rattle.boc_commands.specs.declared.named_run.NamedRun.{NamedRun}
 use Rattle.boc_commands.specs.NamedRuns.{BeginsRecord, HasRun, HasTimes, IsNamedRun}
+use Rattle.boc_commands.specs.TimedNotes.{IsNoteFor, workers_compared}
 use Rattle.boc_view.specs.declared.material.Costs.{Costs}
 use Rattle.boc_view.specs.declared.material.Material.{Material}
 use Rattle.boc_view.specs.declared.wanted.Picture.{Picture}
@@ -93,10 +94,11 @@ pub record HasParts (wanted : Wanted) (run : NamedRun) (material : Material) : T
   pub costs : IsPart (shows_costs wanted.picture) (AreCosts run.rows wanted.sharing (length run.names.cowns.items)) material.costs
 
 -- What the picture that is wanted is made of: the run that the input tells of, as the words say it is run, with the file beside it; what is made of its
--- rows; and the text of the program.
+-- rows; the text of the program; and the note on the span of the timed run with which it is compared, if it is.
 pub record IsMaterial (wanted : Wanted) (file input : List ℕ) (material : Material) : Type 0 where
   pub run : NamedRun
   pub has : HasRun (IsNamedRun wanted.schedule wanted.file file input) run
   pub times : HasTimes wanted.schedule wanted.file input run.rows run.times
   pub parts : HasParts wanted run material
   pub program : IsProgramShown (shows_costs wanted.picture) input material.program.items
+  pub note : IsNoteFor input (workers_compared wanted.schedule (workers_shown wanted) wanted.file) wanted.sharing run.rows material.note.items

@@ -19,8 +19,15 @@ use std::alloc::{AllocError, Global};
 use std::sync::Wait;
 use std::thread::Threads;
 
-/// Returns the picture of the run that an input reports on, in the given number of columns where it is a text. The file given with the input, if there is one,
-/// has these bytes.
+/// A picture, and what is noted of the run that it shows.
+#[derive(Drop)]
+pub(crate) struct Shown {
+    pub text: String,
+    pub note: Vec<u8>,
+}
+
+/// Returns the picture of the run that an input reports on, in the given number of columns where it is a text, and the note on it. The file given with the
+/// input, if there is one, has these bytes.
 ///
 /// An input and a file are refused as `boc why` refuses them. `watch` sees the threads of a run, and `progress` receives how far a draw or the following of a
 /// record is.
@@ -33,14 +40,16 @@ pub(crate) fn pictured<R: Threads + Wait + Sync, S: Source>(
     watch: &Watch<'_, R>,
     progress: &mut dyn Progress,
     source: &mut S,
-) -> Result<String, Fault>
+) -> Result<Shown, Fault>
     requires { S.failures source.old < u64.MAX }
     ensures refused { RefusesNamedRun (Unit {0}) wanted.now.schedule wanted.now.file beside.items result (S.remaining source.old) (S.remaining source.new) }
     ensures source { CountsSource result (S.failures source.old) (S.failures source.new) }
 {
     let text = taken(alloc, source)?;
     let material = material_of(rt, alloc, wanted, beside, text, watch, progress)?;
-    Ok(drawn(alloc, wanted.picture, &material, width)?)
+    let text = drawn(alloc, wanted.picture, &material, width)?;
+    let Material { note, .. } = material;
+    Ok(Shown { text, note })
 }
 
 // Returns the picture that is made of this.

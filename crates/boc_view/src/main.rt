@@ -9,7 +9,7 @@ mod material;
 mod wanted;
 mod words;
 
-use crate::answer::pictured;
+use crate::answer::{Shown, pictured};
 use crate::explaining::explained;
 use crate::wanted::Wanted;
 use crate::words::{Asked, LEAST_COLUMNS, MOST_COLUMNS, read_words};
@@ -88,9 +88,11 @@ fn draw<T: Read + Drop>(
     let mut beside = Kept::new(rt.alloc());
     beside.keep(&bytes);
     let mut input = Input::new(rt.alloc(), input.take(MOST_INPUT));
-    let fault = match text_of(rt, threads, wanted, bytes, &mut input) {
-        Ok(text) => {
+    let fault = match picture_of(rt, threads, wanted, bytes, &mut input) {
+        Ok(Shown { text, note }) => {
             put(rt, &text)?;
+            // A failure of this is ignored, as of the next.
+            let _ = rt.stderr().write_all(&note);
             let Wanted {
                 schedule,
                 file,
@@ -98,7 +100,6 @@ fn draw<T: Read + Drop>(
                 ..
             } = wanted;
             let note = idle_note(*schedule, file, *given, input.is_of_record());
-            // A failure of this is ignored.
             let _ = rt.stderr().write_all(note.as_bytes());
             return Ok(());
         }
@@ -112,20 +113,20 @@ fn draw<T: Read + Drop>(
     Err(Stop::Fault { fault, more })
 }
 
-// Returns the text of the picture that is wanted, and shows how far that is while it is made.
-fn text_of<S: Source>(
+// Returns the picture that is wanted, and shows how far that is while it is made.
+fn picture_of<S: Source>(
     rt: HostRuntime,
     threads: &(impl Threads + Wait + Sync),
     wanted: &Wanted,
     beside: Vec<u8>,
     source: &mut S,
-) -> Result<String, Fault>
+) -> Result<Shown, Fault>
     requires { S.failures source.old < u64.MAX }
 {
     let width = columns(rt, wanted);
     let mut meter = Meter::new(rt);
     let watch = Watch::new(threads, Meter::new(rt));
-    let text = pictured(
+    let made = pictured(
         threads,
         rt.alloc(),
         wanted,
@@ -137,7 +138,7 @@ fn text_of<S: Source>(
     );
     watch.wipe();
     meter.wipe();
-    text
+    made
 }
 
 // Returns how many columns a text has: as many as the words say, or as the terminal has, which COLUMNS says.

@@ -10,6 +10,7 @@ ghost use Rattle.boc_view.specs.Materials.{AreCosts, HasParts, IsMaterial, IsPar
 use crate::wanted::{Picture, Wanted};
 use boc_busy::TimedRows;
 use boc_commands::named_run::named_run;
+use boc_commands::timed_note::{other_run, timed_note_on};
 use boc_commands::{Fault, NamedRun, Origin};
 use boc_cowns::{HotCowns, hot_cowns};
 use boc_greedy::{CurvePoint, Greedy, greedy};
@@ -40,6 +41,8 @@ pub(crate) struct Material {
     pub costs: Option<Costs>,
     /// The text of the program; no bytes where it isn't shown, or where the input is a record.
     pub program: Vec<u8>,
+    /// The note that the timed run with which the run is compared has another span; no bytes where there is nothing to note.
+    pub note: Vec<u8>,
 }
 
 /// What rows and cowns cost. All times are ticks.
@@ -67,27 +70,32 @@ pub(crate) fn material_of<R: Threads + Wait + Sync, G: Gate>(
         (IsOfNamedRun G.always_on wanted.now.schedule wanted.now.file beside.items text.items) }
 {
     let program = program_shown(alloc, wanted.picture, &text)?;
+    let workers = wanted.workers_shown();
+    let other = other_run(alloc, wanted.schedule, workers, &wanted.file, &text)?;
     let origin = Origin {
         schedule: wanted.schedule,
         file: &wanted.file,
         bytes: beside,
     };
     let run = named_run(rt, alloc, text, origin, gate, progress)?;
-    let material = parts_of(rt, alloc, wanted, run, program)?;
+    let note = timed_note_on(alloc, &other, wanted.sharing, &run.rows, progress)?;
+    let material = parts_of(rt, alloc, wanted, run, program, note)?;
     Ok(material)
 }
 
-// Returns what a picture is made of, of this run, with this text of a program.
+// Returns what a picture is made of, of this run, with this text of a program and this note.
 fn parts_of<R: Threads + Sync>(
     rt: &R,
     alloc: Global,
     wanted: &Wanted,
     run: NamedRun,
     program: Vec<u8>,
+    note: Vec<u8>,
 ) -> Result<Material, AllocError>
     requires { AreFew run.rows run.names }
     ensures parts { IfOk result (HasParts wanted.now run) }
     ensures program { IfOk result (λ material. material.program.items ≡ program.items) }
+    ensures note { IfOk result (λ material. material.note.items ≡ note.items) }
 {
     let NamedRun { rows, names, times } = run;
     let greedy = plan_for(alloc, &rows, wanted.sharing, wanted.workers_shown())?;
@@ -106,6 +114,7 @@ fn parts_of<R: Threads + Sync>(
         points,
         costs,
         program,
+        note,
     })
 }
 

@@ -33,7 +33,9 @@ ticks add up to the span.
   page   Has the plan, the curve, the chain, what each behaviour and each cown
          costs, and the program.
 With --timed, text, plan, page and trace add which worker runs what, and when;
-`text --curve` doesn't.
+`text --curve` doesn't. If --p shows a plan, and one thread runs the program, a
+note on standard error says if the timed run on P workers, at most 16, has
+another span.
 
 Exit statuses, as those of boc:
   0  Success

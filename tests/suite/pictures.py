@@ -634,6 +634,12 @@ def operands(view):
     for words_ in (["plan", transfer, transfer], ["plan", "-w", "17"], ["plan", "-p", "0"], ["plan", "-x"]):
         answer = view.run(words_)
         yield f"words: {words_}", None if answer.status == 2 and not answer.output and answer.errors else f"the answer {answer}"
+    tree = view.example("tree.boc")
+    for words_, note in ((["plan", "-p4"], b"4 workers the span is 166"), (["text", "-p16"], b"16 workers the span is 158"), (["text", "--curve", "-p4"], b""),
+                         (["plan", "-p4", "-w2"], b""), (["trace", "-p4", "--timed"], b"")):
+        line = b"boc: note: timed on " + note + b": see --timed\n" if note else b""
+        answer = view.run(words_, tree)
+        yield f"{words_}: the note on a timed run", fault_of(done(answer.output, line), answer)
     help_ = view.run(["plan", "--help"]).output
     yield "help names the file", None if b"[FILE]" in help_ and b"-w, --workers" in help_ and b"-p, --p" in help_ else f"it is {help_}"
 

@@ -13,6 +13,9 @@ SEED = 20261129
 PROGRAMS = 300
 COMPARED = 40
 WORKERS = [1, 2, 3, 4, 7, 16]
+# Of how many the note is compared on the span of the timed run, and for how many workers plans are.
+NOTED = 100
+PLANNED = [1, 2, 4, 16, 40]
 
 TRANSFER = b"""timed 2
 0 0 4 0
@@ -28,6 +31,7 @@ def cases(program):
     yield from worked(program)
     yield from random_programs(program)
     yield from refusals(program)
+    yield from notes(program)
 
 
 class Simulation:
@@ -169,3 +173,31 @@ def refusals(program):
     record = program.run(["run"], b"main { }").output
     for command in ("why", "cowns"):
         yield f"{command} of a record", fault_of(done(program.run([command], record).output, OF_RECORD), program.run([command, "--timed"], record))
+
+
+def note_on(plain, planned):
+    """The note of `why -p P` on a program that one thread runs: the span of the timed run, where it is another one."""
+    workers = min(planned, 16)
+    own, timed = (model.span(Simulation(plain, number).model_rows()) for number in (1, workers))
+    return b"" if own == timed else f"boc: note: timed on {workers} workers the span is {timed}: see --timed\n".encode()
+
+
+def notes(program):
+    """The note of `why -p P` on the span of the timed run: the last line, and only of a program that one thread runs."""
+    tree, dinner = program.example("tree.boc"), program.example("handbook/dinner.boc")
+    for name, text, planned, span in (("the tree", tree, "4", 166), ("the tree", tree, "16", 158), ("the tree", tree, "64", 158), ("a dinner", dinner, "4", 523)):
+        line = f"boc: note: timed on {min(int(planned), 16)} workers the span is {span}: see --timed\n".encode()
+        answer = program.run(["why", "--p", planned], text)
+        yield f"the note on {name} for {planned}", fault_of(done(answer.output, line), answer)
+    record = program.run(["run"], tree).output
+    for words in (["--p", "4", "--quiet"], ["--p", "4", "--workers", "2"], ["--p", "4", "--seed", "1"], ["--p", "4", "--timed"], [], ["--p", "1"]):
+        answer = program.run(["why", *words], tree)
+        yield f"no note with {words}", None if b"timed on" not in answer.notes and answer.status == 0 else f"it is {answer.notes}"
+    for name, answer in (("a record", program.run(["why", "--p", "4"], record)), ("--record", program.run_beside(["why", "--p", "4"], "--record", record, tree))):
+        yield f"no note with {name}", fault_of(done(answer.output, b""), answer)
+    for number in range(NOTED):
+        plain, text = random_program(random.Random(f"{SEED} note {number}"))
+        others = program.run(["why"], text).notes
+        for planned in PLANNED:
+            answer = program.run(["why", "--p", str(planned)], text)
+            yield f"random program {number}, the note for {planned}", fault_of(done(answer.output, others + note_on(plain, planned)), answer)

@@ -1,0 +1,2 @@
+pub mod GreedyChains
+pub mod Turns

@@ -1,0 +1,15 @@
+pub mod Sets
+pub mod KindCoding
+pub mod KindPlaces
+pub mod Going
+pub mod Lining
+pub mod Leaving
+pub mod Raising
+pub mod Spawning
+pub mod Starting
+pub mod Waiting
+pub mod Asking
+pub mod Finishing
+pub mod Beginning
+pub mod Ahead
+pub mod EagerPlans

@@ -1,0 +1,5 @@
+pub mod Kinds
+pub mod Eager
+pub mod Swaps
+pub mod Lines
+pub mod Courses

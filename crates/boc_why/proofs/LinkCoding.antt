@@ -6,7 +6,7 @@ use Rattle.std.proofs.lemmas.List.Elements.{All-head, All-tail}
 use Rattle.std.proofs.lemmas.Option.{slice_get_cases}
 use Rattle.boc_program.specs.declared.limits.TheConstants.{MOST_COWNS}
 use Rattle.boc_why.specs.declared.links.Link.{Link}
-use Rattle.boc_why.specs.declared.links.Link.TheVariants.{SpawnBy, Hands, Ends}
+use Rattle.boc_why.specs.declared.links.Link.TheVariants.{SpawnBy, Hands, Frees, Ends}
 use Rattle.boc_why.specs.Shares.{AreFirsts}
 use Rattle.boc_why.specs.LinkCodes.{cowns_code, link_code, HasBytes, AreCodes, AreFirstPlaces}
 
@@ -38,12 +38,19 @@ same_cowns (x ∷ xs) (y ∷ ys) hx hy e =
 pub same_links : (a b : Link) → HasBytes a → HasBytes b → link_code a ≡ link_code b → a ≡ b
 same_links (SpawnBy d) (SpawnBy e) ha hb h = ap SpawnBy (omega (arith, h))
 same_links (SpawnBy d) (Hands ys) ha hb h = absurd (omega (arith, h))
+same_links (SpawnBy d) Frees ha hb h = absurd (omega (arith, h))
 same_links (SpawnBy d) Ends ha hb h = absurd (omega (arith, h))
 same_links (Hands xs) (SpawnBy e) ha hb h = absurd (omega (arith, h))
 same_links (Hands xs) (Hands ys) ha hb h = ap (λ cs. Hands (record { items = cs })) (same_cowns xs.items ys.items ha hb (omega (arith, h)))
+same_links (Hands xs) Frees ha hb h = absurd (omega (arith, h, code_low xs.items))
 same_links (Hands xs) Ends ha hb h = absurd (omega (arith, h, code_low xs.items))
+same_links Frees (SpawnBy e) ha hb h = absurd (omega (arith, h))
+same_links Frees (Hands ys) ha hb h = absurd (omega (arith, h, code_low ys.items))
+same_links Frees Frees ha hb h = refl
+same_links Frees Ends ha hb h = absurd (omega (arith, h))
 same_links Ends (SpawnBy e) ha hb h = absurd (omega (arith, h))
 same_links Ends (Hands ys) ha hb h = absurd (omega (arith, h, code_low ys.items))
+same_links Ends Frees ha hb h = absurd (omega (arith, h))
 same_links Ends Ends ha hb h = refl
 
 module _ (links : List Link) (codes : List ℕ) (coded : AreCodes links codes) where

@@ -17,17 +17,14 @@ use Rattle.boc_plans.specs.Plans.{HasEnds, IsEnd}
 use Rattle.boc_plans.specs.Seen.{seen}
 use Rattle.boc_order.proofs.Alone.{one_chain, one_end, one_list_of_ends, one_plan}
 use Rattle.boc_why.specs.declared.links.Link.{Link}
-use Rattle.boc_why.specs.declared.links.Link.TheVariants.{SpawnBy, Hands, Ends}
-use Rattle.boc_why.specs.declared.remedies.Remedy.{Remedy}
+use Rattle.boc_why.specs.declared.links.Link.TheVariants.{SpawnBy, Hands, Frees, Ends}
 use Rattle.boc_why.specs.declared.shares.Share.{Share}
 use Rattle.boc_why.specs.declared.why.Why.{Why}
-use Rattle.boc_why.specs.Remedies.{AreCandidates, AreHandedFamilies, tried_of}
 use Rattle.boc_order.specs.Handed.{AreHanded}
-use Rattle.boc_why.specs.Shares.{AreDefsOf, AreFirsts, AreLinks, AreShares, IsFirstLike, LinkSays}
+use Rattle.boc_why.specs.Shares.{AreDefsOf, AreFirsts, AreLinks, AreShares, IsFirstLike, LinkSays, weights_of}
 use Rattle.boc_why.specs.Why.{IsWhy, SayTheSame}
 use Rattle.boc_why.specs.WhySteps.{AreSharesByDef}
 use Rattle.boc_order.proofs.OneLeast.{one_least}
-use Rattle.boc_why.proofs.OneRemedy.{one_list as one_list_of_candidates}
 use Rattle.boc_order.proofs.Ranked.{Ranked, ranked_from_places, same_ranked}
 use Rattle.boc_why.proofs.ShareLaws.{one_list as one_list_of_shares}
 
@@ -54,22 +51,28 @@ module _ (rows : List Row) where
       → LinkSays rows defs a via next other → link ≡ other
   one_link defs a Spawn next (SpawnBy d) (SpawnBy e) l m = ap (λ (def : ℕ). SpawnBy def) (l ∙ sym m)
   one_link defs a Spawn next (SpawnBy d) (Hands cowns) l m = absurd m
+  one_link defs a Spawn next (SpawnBy d) Frees l m = absurd m
   one_link defs a Spawn next (SpawnBy d) Ends l m = absurd m
   one_link defs a Spawn next (Hands cowns) other l m = absurd l
+  one_link defs a Spawn next Frees other l m = absurd l
   one_link defs a Spawn next Ends other l m = absurd l
   one_link defs a Order None link other l m = absurd l
   one_link defs a Order (Some next) (Hands cowns) (Hands others) l m =
       let same : cowns.items ≡ others.items = one_handed a next.row cowns.items others.items l m in
       λ i. Hands (record { items = same i })
   one_link defs a Order (Some next) (Hands cowns) (SpawnBy d) l m = absurd m
+  one_link defs a Order (Some next) (Hands cowns) Frees l m = absurd m
   one_link defs a Order (Some next) (Hands cowns) Ends l m = absurd m
   one_link defs a Order (Some next) (SpawnBy d) other l m = absurd l
+  one_link defs a Order (Some next) Frees other l m = absurd l
   one_link defs a Order (Some next) Ends other l m = absurd l
   one_link defs a Last next Ends Ends l m = refl
   one_link defs a Last next Ends (SpawnBy d) l m = absurd m
   one_link defs a Last next Ends (Hands cowns) l m = absurd m
+  one_link defs a Last next Ends Frees l m = absurd m
   one_link defs a Last next (SpawnBy d) other l m = absurd l
   one_link defs a Last next (Hands cowns) other l m = absurd l
+  one_link defs a Last next Frees other l m = absurd l
 
   one_list_of_links : (defs : List ℕ) (steps : List ChainStep) (links others : List Link) → AreLinks rows defs steps links
       → AreLinks rows defs steps others → links ≡ others
@@ -98,7 +101,7 @@ pub one_list_by_def : (defs : List ℕ) (steps : List ChainStep) (shares others 
     → AreSharesByDef defs steps others → shares ≡ others
 one_list_by_def defs steps shares others a b =
     let keys : a.keys ≡ b.keys = one_list_of_defs defs steps a.keys b.keys a.keys_are b.keys_are in
-    one_list_of_shares b.keys steps shares others (subst (λ (list : List ℕ). AreShares list steps shares) keys a.are) b.are
+    one_list_of_shares b.keys (weights_of steps) shares others (subst (λ (list : List ℕ). AreShares list (weights_of steps) shares) keys a.are) b.are
 
 one_first : (links : List Link) (k first other : ℕ) → IsFirstLike links k first → IsFirstLike links k other → first ≡ other
 one_first links k first other a b = ⊎_elim (λ (e : first ≡ other). e)
@@ -110,17 +113,10 @@ one_list_of_firsts links firsts others a b = ext_get_or 0 firsts others (a.whole
     let there : k < length links = omega (arith, h, a.whole) in
     one_first links k (slice_index firsts k) (slice_index others k) (a.at k there) (b.at k there))
 
--- ---- what is tried
-
-one_list_of_families : (links : List Link) (families handed others : List ℕ) → AreHandedFamilies links families handed
-    → AreHandedFamilies links families others → handed ≡ others
-one_list_of_families links families handed others a b = one_rise handed others a.rise b.rise
-    (λ family. (λ stands. (b.each family).1 ((a.each family).0 stands), λ stands. (a.each family).1 ((b.each family).0 stands)))
-
 -- ---- all of it
 
-module _ (list : List Row) (sharing : Sharing) (defs families : List ℕ) (count : ℕ) (why other : Why) (a : IsWhy list sharing defs families count why)
-    (b : IsWhy list sharing defs families count other) where
+module _ (list : List Row) (sharing : Sharing) (defs : List ℕ) (count : ℕ) (why other : Why) (a : IsWhy list sharing defs count why)
+    (b : IsWhy list sharing defs count other) where
   abbrev rows : List Row
   rows = seen sharing list
 
@@ -146,23 +142,9 @@ module _ (list : List Row) (sharing : Sharing) (defs families : List ℕ) (count
       (subst (λ (links : List Link). AreFirsts links a.firsts) links_same a.firsts_are) b.firsts_are
 
   by_link_same : why.by_link.items ≡ other.by_link.items
-  by_link_same = one_list_of_shares b.firsts other.profile.chain.steps.items why.by_link.items other.by_link.items
-      (subst (λ (firsts : List ℕ). AreShares firsts other.profile.chain.steps.items why.by_link.items) firsts_same
-      (subst (λ (steps : List ChainStep). AreShares a.firsts steps why.by_link.items) steps_same a.by_link)) b.by_link
-
-  handed_same : a.handed ≡ b.handed
-  handed_same = one_list_of_families other.links.items families a.handed b.handed
-      (subst (λ (links : List Link). AreHandedFamilies links families a.handed) links_same a.handed_are) b.handed_are
-
-  tried_same : tried_of why.by_def.items why.by_link.items why.links.items a.handed
-      ≡ tried_of other.by_def.items other.by_link.items other.links.items b.handed
-  tried_same = λ i. tried_of (by_def_same i) (by_link_same i) (links_same i) (handed_same i)
-
-  candidates_same : why.candidates.items ≡ other.candidates.items
-  candidates_same =
-      let tried : List Remedy = tried_of other.by_def.items other.by_link.items other.links.items b.handed in
-      one_list_of_candidates list sharing defs families tried why.candidates.items other.candidates.items
-      (subst (λ (remedies : List Remedy). AreCandidates list sharing defs families remedies why.candidates.items) tried_same a.candidates) b.candidates
+  by_link_same = one_list_of_shares b.firsts (weights_of other.profile.chain.steps.items) why.by_link.items other.by_link.items
+      (subst (λ (firsts : List ℕ). AreShares firsts (weights_of other.profile.chain.steps.items) why.by_link.items) firsts_same
+      (subst (λ (steps : List ChainStep). AreShares a.firsts (weights_of steps) why.by_link.items) steps_same a.by_link)) b.by_link
 
   pub one_why : SayTheSame why other
   one_why = record {
@@ -176,6 +158,5 @@ module _ (list : List Row) (sharing : Sharing) (defs families : List ℕ) (count
     links = links_same;
     by_def = by_def_same;
     by_link = by_link_same;
-    candidates = candidates_same;
     least = one_least rows count why.least other.least a.least b.least;
   }

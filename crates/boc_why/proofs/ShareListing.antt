@@ -5,7 +5,6 @@ use Rattle.std.specs.List.{Contains}
 use Rattle.std.proofs.lemmas.Bool.{cases_lt}
 use Rattle.std.proofs.lemmas.List.{length_push}
 use Rattle.std.proofs.lemmas.Option.{slice_get_within}
-use Rattle.boc_plans.specs.declared.chain.ChainStep.{ChainStep}
 use Rattle.boc_why.specs.declared.shares.Share.{Share}
 use Rattle.boc_why.specs.Shares.{IsShare}
 use Rattle.boc_why.specs.ShareTotals.{ListShares}
@@ -19,13 +18,13 @@ pub record HasShareOf (shares : List Share) (key : ℕ) : Type 0 where
   pub same : share.key ≡ key
 
 -- the shares of the keys below n, rising by key
-pub record SharesBelow (keys : List ℕ) (chain : List ChainStep) (n : ℕ) (shares : List Share) : Type 0 where
-  pub each : (i : ℕ) (share : Share) → slice_get shares i ≡ Some share → IsShare keys chain share × (share.key < n)
+pub record SharesBelow (keys weights : List ℕ) (n : ℕ) (shares : List Share) : Type 0 where
+  pub each : (i : ℕ) (share : Share) → slice_get shares i ≡ Some share → IsShare keys weights share × (share.key < n)
   pub all : (key : ℕ) → key < n → Contains keys key → HasShareOf shares key
   pub rise : (i j : ℕ) (a b : Share) → i < j → slice_get shares i ≡ Some a → slice_get shares j ≡ Some b → a.key < b.key
 
-module _ (keys : List ℕ) (chain : List ChainStep) where
-  pub below_none : SharesBelow keys chain 0 []
+module _ (keys weights : List ℕ) where
+  pub below_none : SharesBelow keys weights 0 []
   below_none = record {
     each = λ i share is. absurd (omega (arith, slice_get_within [] i share is));
     all = λ key h stands. absurd (omega (arith, h));
@@ -33,12 +32,12 @@ module _ (keys : List ℕ) (chain : List ChainStep) where
   }
 
   -- the next key has a share
-  pub below_more : (n : ℕ) (shares : List Share) (share : Share) → SharesBelow keys chain n shares → IsShare keys chain share → share.key ≡ n
-      → SharesBelow keys chain (n + 1) (shares ++ share ∷ [])
+  pub below_more : (n : ℕ) (shares : List Share) (share : Share) → SharesBelow keys weights n shares → IsShare keys weights share → share.key ≡ n
+      → SharesBelow keys weights (n + 1) (shares ++ share ∷ [])
   below_more n shares share so is key = record {
     each = λ i s at. ⊎_elim
         (λ (l : (i < length shares) × (slice_get shares i ≡ Some s)). let e = so.each i s l.1 in (e.0, omega (arith, e.1)))
-        (λ (last : (i ≡ length shares) × (share ≡ s)). subst (λ (x : Share). IsShare keys chain x × (x.key < n + 1)) last.1 (is, omega arith))
+        (λ (last : (i ≡ length shares) × (share ≡ s)). subst (λ (x : Share). IsShare keys weights x × (x.key < n + 1)) last.1 (is, omega arith))
         (pushed_cases shares share i s at);
     all = λ k h stands. ⊎_elim
         (λ (b : k < n). let old = so.all k b stands in
@@ -55,7 +54,7 @@ module _ (keys : List ℕ) (chain : List ChainStep) where
   }
 
   -- the next key has none
-  pub below_same : (n : ℕ) (shares : List Share) → SharesBelow keys chain n shares → (Contains keys n → ⊥) → SharesBelow keys chain (n + 1) shares
+  pub below_same : (n : ℕ) (shares : List Share) → SharesBelow keys weights n shares → (Contains keys n → ⊥) → SharesBelow keys weights (n + 1) shares
   below_same n shares so none = record {
     each = λ i s at. let e = so.each i s at in (e.0, omega (arith, e.1));
     all = λ k h stands. ⊎_elim
@@ -65,7 +64,7 @@ module _ (keys : List ℕ) (chain : List ChainStep) where
     rise = so.rise;
   }
 
-  pub below_all : (n : ℕ) (shares : List Share) → ((key : ℕ) → Contains keys key → key < n) → SharesBelow keys chain n shares → ListShares keys chain shares
+  pub below_all : (n : ℕ) (shares : List Share) → ((key : ℕ) → Contains keys key → key < n) → SharesBelow keys weights n shares → ListShares keys weights shares
   below_all n shares high so = record {
     each = λ i s at. (so.each i s at).0;
     all = λ key stands. let s = so.all key (high key stands) stands in (s.place, s.share, s.there, s.same);

@@ -3,7 +3,6 @@ use Rattle.std.proofs.Common.{ℕ, List}
 use Rattle.std.proofs.Common.{is_lt, Ordering}
 use Rattle.std.specs.List.Sorted.{IsPermutation, IsSortedBy}
 use Rattle.std.proofs.lemmas.List.Sorted.{IsPermutation-sym, Contains-permutation}
-use Rattle.boc_plans.specs.declared.chain.ChainStep.{ChainStep}
 use Rattle.boc_order.proofs.HeaviestFirst.{heavy_cmp, heaviest_first, one_moved}
 use Rattle.boc_order.proofs.Places.{contains_from_place, place_from_contains}
 use Rattle.boc_why.specs.declared.shares.Share.{Share}
@@ -21,9 +20,9 @@ abbrev pub share_cmp : Share → Share → Ordering
 share_cmp = heavy_cmp key_of ticks_of
 
 -- shares that a sort has moved, and that it leaves in their order
-pub shares_sorted : (keys : List ℕ) (chain : List ChainStep) (xs ys : List Share) → ListShares keys chain xs → IsPermutation xs ys
-    → IsSortedBy (λ a b. is_lt (share_cmp a b)) ys → AreShares keys chain ys
-shares_sorted keys chain xs ys list moved up = record {
+pub shares_sorted : (keys weights : List ℕ) (xs ys : List Share) → ListShares keys weights xs → IsPermutation xs ys
+    → IsSortedBy (λ a b. is_lt (share_cmp a b)) ys → AreShares keys weights ys
+shares_sorted keys weights xs ys list moved up = record {
   each = λ i s is.
       let old = place_from_contains xs s (Contains-permutation ys xs s (IsPermutation-sym xs ys moved) (contains_from_place ys i s is)) in
       list.each old.0 s old.1;

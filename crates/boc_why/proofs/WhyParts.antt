@@ -35,9 +35,9 @@ firsts_below links firsts are k d h =
     omega (arith, first, get_or_default firsts k d 0 h)
 
 -- the keys of shares are below what all keys are below
-pub keys_below : (n : ℕ) (keys : List ℕ) (steps : List ChainStep) (shares : List Share) → All (λ k. k < n) keys → AreShares keys steps shares
+pub keys_below : (n : ℕ) (keys weights : List ℕ) (shares : List Share) → All (λ k. k < n) keys → AreShares keys weights shares
     → All (λ s. s.key < n) shares
-keys_below n keys steps shares low are k d h =
+keys_below n keys weights shares low are k d h =
     All-contains (λ k. k < n) keys (get_or shares k d).key low (are.each k (get_or shares k d) (slice_get-get_or shares k d h)).there
 
 -- the rows of a chain are there

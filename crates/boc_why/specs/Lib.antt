@@ -2,7 +2,6 @@ pub mod Shares
 pub mod LinkCodes
 pub mod ShareTotals
 pub mod Causes
-pub mod Remedies
-pub mod RemedySteps
+pub mod Ranking
 pub mod WhySteps
 pub mod Why

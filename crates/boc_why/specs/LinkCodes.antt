@@ -2,23 +2,25 @@
 use Rattle.std.specs.Prelude.{◌≡◌, ◌≢◌, ◌<◌, ◌+◌, ◌*◌, ℕ, List, [], ◌∷◌, length, All, Some, slice_get, slice_index}
 use Rattle.boc_program.specs.declared.limits.TheConstants.{MOST_COWNS}
 use Rattle.boc_why.specs.declared.links.Link.{Link}
-use Rattle.boc_why.specs.declared.links.Link.TheVariants.{SpawnBy, Hands, Ends}
+use Rattle.boc_why.specs.declared.links.Link.TheVariants.{SpawnBy, Hands, Frees, Ends}
 
 -- cowns as one number: a byte for each, the first the lowest, and a 1 above them
 abbrev pub cowns_code : List ℕ → ℕ
 cowns_code [] = 1
 cowns_code (c ∷ cowns) = c + MOST_COWNS * cowns_code cowns
 
--- a link as one number: odd for a spawn, even for cowns
+-- a link as one number: odd and above 1 for a spawn, even and above 0 for cowns
 abbrev pub link_code : Link → ℕ
-link_code (SpawnBy def) = 2 * def + 1
+link_code (SpawnBy def) = 2 * def + 3
 link_code (Hands cowns) = 2 * cowns_code cowns.items
+link_code Frees = 1
 link_code Ends = 0
 
 -- each cown of the link has a byte
 abbrev pub HasBytes : Link → Type 0
 HasBytes (SpawnBy def) = Unit {0}
 HasBytes (Hands cowns) = All (λ c. c < MOST_COWNS) cowns.items
+HasBytes Frees = Unit {0}
 HasBytes Ends = Unit {0}
 
 -- the number is the link's, and tells it from all others

@@ -1,5 +1,5 @@
 -- What a chain goes through, and how much of it: the defs of its rows, and what leads from each row to the next.
-use Rattle.std.specs.Prelude.{◌≡◌, ◌≢◌, ◌+◌, ◌<◌, ◌⊎◌, ◌==◌, ℕ, suc, List, [], ◌∷◌, length, cond, Option, Some, slice_get, slice_index}
+use Rattle.std.specs.Prelude.{◌≡◌, ◌≢◌, ◌+◌, ◌<◌, ◌⊎◌, ◌==◌, ℕ, suc, List, [], ◌∷◌, length, map, cond, Option, Some, slice_get, slice_index}
 use Rattle.std.specs.List.{Contains}
 use Rattle.boc_runs.specs.declared.rows.Row.{Row}
 use Rattle.boc_plans.specs.declared.chain.ChainStep.{ChainStep}
@@ -42,21 +42,25 @@ pub record AreDefsOf (defs : List ℕ) (steps : List ChainStep) (keys : List ℕ
   pub whole : length keys ≡ length steps
   pub at : (k : ℕ) (s : ChainStep) → slice_get steps k ≡ Some s → slice_index keys k ≡ def_of defs s.row
 
--- what the steps with this key weigh, where each step has a key
-abbrev pub ticks_at : ℕ → List ℕ → List ChainStep → ℕ
-ticks_at key [] steps = 0
+-- what the steps of a chain weigh
+abbrev pub weights_of : List ChainStep → List ℕ
+weights_of steps = map (λ s. s.weight) steps
+
+-- what the steps with this key weigh, where each step has a key and a weight
+abbrev pub ticks_at : ℕ → List ℕ → List ℕ → ℕ
+ticks_at key [] weights = 0
 ticks_at key (k ∷ keys) [] = 0
-ticks_at key (k ∷ keys) (s ∷ steps) = cond (k == key) s.weight 0 + ticks_at key keys steps
+ticks_at key (k ∷ keys) (w ∷ weights) = cond (k == key) w 0 + ticks_at key keys weights
 
 -- how many steps have this key
 abbrev pub steps_at : ℕ → List ℕ → ℕ
 steps_at key [] = 0
 steps_at key (k ∷ keys) = cond (k == key) 1 0 + steps_at key keys
 
--- the share of this key in the chain
-pub record IsShare (keys : List ℕ) (chain : List ChainStep) (share : Share) : Type 0 where
+-- the share of this key in a chain whose steps have these keys and weights
+pub record IsShare (keys weights : List ℕ) (share : Share) : Type 0 where
   pub there : Contains keys share.key
-  pub ticks : share.ticks ≡ ticks_at share.key keys chain
+  pub ticks : share.ticks ≡ ticks_at share.key keys weights
   pub steps : share.steps ≡ steps_at share.key keys
 
 -- the one weighs more, or as much and has the lesser key
@@ -64,7 +68,7 @@ abbrev pub StandsBefore : Share → Share → Type 0
 StandsBefore a b = (b.ticks < a.ticks) ⊎ ((a.ticks ≡ b.ticks) × (a.key < b.key))
 
 -- the shares of all keys of a chain, those that weigh most first
-pub record AreShares (keys : List ℕ) (steps : List ChainStep) (shares : List Share) : Type 0 where
-  pub each : (i : ℕ) (share : Share) → slice_get shares i ≡ Some share → IsShare keys steps share
+pub record AreShares (keys weights : List ℕ) (shares : List Share) : Type 0 where
+  pub each : (i : ℕ) (share : Share) → slice_get shares i ≡ Some share → IsShare keys weights share
   pub all : (key : ℕ) → Contains keys key → (i : ℕ) × (share : Share) × (slice_get shares i ≡ Some share) × (share.key ≡ key)
   pub sorted : (i j : ℕ) (a b : Share) → i < j → slice_get shares i ≡ Some a → slice_get shares j ≡ Some b → StandsBefore a b

@@ -4,25 +4,21 @@ use Rattle.boc_runs.specs.declared.rows.Row.{Row}
 use Rattle.boc_plans.specs.declared.sharing.Sharing.{Sharing}
 use Rattle.boc_plans.specs.Seen.{seen}
 use Rattle.boc_order.specs.Profiles.{IsProfileOf}
-use Rattle.boc_why.specs.Shares.{AreDefsOf, AreFirsts, AreLinks, AreShares}
+use Rattle.boc_why.specs.Shares.{AreDefsOf, AreFirsts, AreLinks, AreShares, weights_of}
 use Rattle.boc_order.specs.Least.{IsLeast}
-use Rattle.boc_why.specs.Remedies.{AreCandidates, AreHandedFamilies, tried_of}
 use Rattle.boc_why.specs.declared.why.Why.{Why}
 
--- For rows with these defs over so many cowns of these families: their profile, with the chain that holds them back; what leads on from each of its
--- steps, its shares by def and by link, what would bring the end forward, and a lower bound for any order on the cowns.
-pub record IsWhy (rows : List Row) (sharing : Sharing) (defs families : List ℕ) (count : ℕ) (why : Why) : Type 0 where
+-- For rows with these defs over so many cowns: their profile, with the chain that holds them back; what leads on from each of its steps, its shares by def and
+-- by link, and a lower bound for any order on the cowns.
+pub record IsWhy (rows : List Row) (sharing : Sharing) (defs : List ℕ) (count : ℕ) (why : Why) : Type 0 where
   pub profile : IsProfileOf (seen sharing rows) why.profile
   pub links : AreLinks (seen sharing rows) defs why.profile.chain.steps.items why.links.items
   pub keys : List ℕ
   pub keys_are : AreDefsOf defs why.profile.chain.steps.items keys
-  pub by_def : AreShares keys why.profile.chain.steps.items why.by_def.items
+  pub by_def : AreShares keys (weights_of why.profile.chain.steps.items) why.by_def.items
   pub firsts : List ℕ
   pub firsts_are : AreFirsts why.links.items firsts
-  pub by_link : AreShares firsts why.profile.chain.steps.items why.by_link.items
-  pub handed : List ℕ
-  pub handed_are : AreHandedFamilies why.links.items families handed
-  pub candidates : AreCandidates rows sharing defs families (tried_of why.by_def.items why.by_link.items why.links.items handed) why.candidates.items
+  pub by_link : AreShares firsts (weights_of why.profile.chain.steps.items) why.by_link.items
   pub least : IsLeast (seen sharing rows) count why.least
 
 -- two say the same: in all that is told of them they are alike
@@ -35,5 +31,4 @@ pub record SayTheSame (why other : Why) : Type 0 where
   pub links : why.links.items ≡ other.links.items
   pub by_def : why.by_def.items ≡ other.by_def.items
   pub by_link : why.by_link.items ≡ other.by_link.items
-  pub candidates : why.candidates.items ≡ other.candidates.items
   pub least : why.least ≡ other.least

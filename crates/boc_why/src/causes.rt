@@ -1,22 +1,16 @@
-// What may hold a program back, and the span that is left without it.
+// What may hold a program back, and the rows without what it costs.
 
-ghost use Rattle.std.specs.Prelude.{◌≡◌, ◌<◌, ◌≤◌, List, length, slice_get, Some, IfOk, OnOk, OnErr};
-ghost use Rattle.boc_program.specs.declared.limits.TheConstants.{MOST_ROWS};
-ghost use Rattle.boc_runs.specs.declared.rows.Row.{Row};
+ghost use Rattle.std.specs.Prelude.{◌≡◌, ◌≤◌, length, IfOk, OnOk, OnErr};
+ghost use Rattle.boc_program.specs.declared.limits.TheConstants.{MOST_COWNS, MOST_ROWS};
+ghost use Rattle.boc_program.specs.Cowns.{AreAmong};
 ghost use Rattle.boc_plans.specs.Edits.{AreEdited};
-ghost use Rattle.boc_plans.specs.Greedy.{IsSpan};
-ghost use Rattle.boc_plans.specs.Seen.{seen};
-ghost use Rattle.boc_why.specs.Causes.{AreSpansWith, AreSpawnedEarly, IsSpanWith, def_edits, half, without_all};
+ghost use Rattle.boc_why.specs.Causes.{AreMarks, AreOffsetsHalved, AreSpawnedEarly, IsWith, def_edits, freed_from, half, without_all};
 
-use boc_order::waits_and_plan;
 use boc_plans::edit::{Change, Edit, Part};
-use boc_plans::sharing::{SeenRows, Sharing};
+use boc_program::limits::MOST_COWNS;
 use boc_program::short::HeldCown;
-use boc_runs::rows::Rows;
-use boc_whatif::WhatIf;
-use rayon::prelude::*;
+use boc_runs::rows::{Row, Rows};
 use std::alloc::{AllocError, Global};
-use std::thread::Threads;
 
 /// What may hold a program back.
 #[derive(Drop, Debug)]
@@ -48,15 +42,44 @@ pub fn def_edits(alloc: Global, defs: &[u32], def: u32, part: Part) -> Result<Ve
     Ok(edits)
 }
 
+// Returns a row without those of its cowns that are left out.
+fn freed(row: &Row, is_left_out: &[bool]) -> Row
+    requires marks { length is_left_out.now ≡ MOST_COWNS }
+    requires among { AreAmong row.now.cowns.items row.now.written.items }
+    ensures { result ≡ freed_from is_left_out.now row.now }
+{
+    let mut left = row.duplicate();
+    for cown in row.cowns.as_slice() {
+        if is_left_out[*cown as usize] {
+            left = left.without(*cown);
+        }
+    }
+    left
+}
+
+// Returns for each cown whether it is one of these. `AllocError` says that memory was refused.
+fn marks_of(alloc: Global, cowns: &[HeldCown]) -> Result<Vec<bool>, AllocError>
+    ensures { IfOk result (λ marks. AreMarks cowns.now marks.items) }
+{
+    let mut marks = vec![in alloc; false; MOST_COWNS]?;
+    for cown in cowns {
+        marks[*cown as usize] = true;
+    }
+    Ok(marks)
+}
+
 /// Returns the same rows, none of which has one of these cowns. `AllocError` says that memory was refused, and then the rows are gone.
+///
+/// It goes over the rows once, however many cowns there are.
 pub fn without_all(alloc: Global, rows: Rows, cowns: &[HeldCown]) -> Result<Rows, AllocError>
     ensures { IfOk result (λ left. left ≡ without_all cowns.now rows) }
 {
-    let mut left = rows;
-    for cown in cowns {
-        left = left.without(alloc, *cown)?;
+    let is_left_out = marks_of(alloc, cowns)?;
+    let mut left = Vec::with_capacity(alloc, rows.as_slice().len())?;
+    for row in rows.as_slice() {
+        left.push_reserved(freed(row, &is_left_out));
     }
-    Ok(left)
+    Ok(Rows::new(left))
 }
 
 /// Makes the rows of a def spawn as early as they can: the first child at tick 1, and each other one a tick after its earlier sibling. These are the
@@ -78,88 +101,68 @@ pub fn spawn_early(alloc: Global, rows: &mut Rows, defs: &[u32], def: u32) -> Re
     Ok(())
 }
 
-// One half.
-fn half() -> Part
-    ensures { result ≡ half }
-{
-    Part::new(1, 2).unwrap()
-}
-
-// Returns the span of some rows. `AllocError` says that memory was refused.
-fn span_of(alloc: Global, rows: Rows, sharing: Sharing) -> Result<u64, AllocError>
-    ensures { IfOk result (IsSpan (seen sharing rows)) }
-{
-    let seen = SeenRows::new(&rows, sharing);
-    let (_, plan) = waits_and_plan(alloc, &seen)?;
-    Ok(plan.span())
-}
-
-// Returns the span of the rows in which those of a def cost half as much. `AllocError` says that memory was refused.
-fn halved_span(
+// Has the children of the rows of a def be spawned after half as many ticks, rounded up, and each at least a tick after its earlier sibling. Returns for each
+// row of the def the offset of its last child, or 0. `AllocError` says that memory was refused, and then nothing changes.
+fn halve_offsets(
     alloc: Global,
-    rows: Rows,
-    sharing: Sharing,
+    rows: &mut Rows,
     defs: &[u32],
     def: u32,
-) -> Result<u64, AllocError>
-    requires defs { length defs.now ≡ length rows }
-    ensures { IfOk result (λ span. (after : List Row) × AreEdited rows (def_edits half def 0 defs.now) after × IsSpan (seen sharing after) span) }
+) -> Result<Vec<u32>, AllocError>
+    requires defs { length defs.now ≡ length rows.old }
+    ensures halved { IfOk result (λ lasts. AreOffsetsHalved rows.old defs.now def rows.new lasts.items) }
+    ensures stays { OnErr result (rows.new ≡ rows.old) }
 {
-    let edits = def_edits(alloc, defs, def, half())?;
-    let mut question = WhatIf::of(alloc, rows, sharing)?;
-    match question.edit_all(&edits) {
-        Ok(()) => Ok(question.span()),
-        Err(_) => unreachable!(),
+    let mut lasts = vec![in alloc; 0; defs.len()]?;
+    for row in 1..defs.len() {
+        let own = &rows.as_slice()[row];
+        let parent = own.parent as usize;
+        if defs[parent] == def {
+            let offset = own.offset.div_ceil(2).max(lasts[parent] + 1);
+            rows.set_offset(row as u32, offset);
+            lasts[parent] = offset;
+        }
     }
+    Ok(lasts)
 }
 
-// Returns the span that is left with a cause changed. `AllocError` says that memory was refused.
-fn span_with(
+/// Has the rows of a def cost half of what they did, rounded up: their ticks, and the offsets of their children, which stay at least a tick apart. It is what
+/// the edits of these rows result in, one after the other. These are the defs of the rows. `AllocError` says that memory was refused, and then nothing changes.
+///
+/// It goes over the rows twice.
+pub fn halve(alloc: Global, rows: &mut Rows, defs: &[u32], def: u32) -> Result<(), AllocError>
+    requires defs { length defs.now ≡ length rows.old }
+    ensures halved { OnOk result (AreEdited rows.old (def_edits half def 0 defs.now) rows.new) }
+    ensures stays { OnErr result (rows.new ≡ rows.old) }
+{
+    let lasts = halve_offsets(alloc, rows, defs, def)?;
+    for row in 0..rows.as_slice().len() {
+        if defs[row] == def {
+            let ticks = rows.as_slice()[row].ticks.div_ceil(2).max(lasts[row]);
+            rows.set_ticks(row as u32, ticks);
+        }
+    }
+    Ok(())
+}
+
+/// Returns the rows with a cause changed: a def's behaviours cost half as much, the cowns impose no order, or a def's behaviours spawn as early as they can.
+/// These are the defs of the rows. `AllocError` says that memory was refused.
+///
+/// It takes a copy of the rows, and goes over them once or twice more.
+pub fn rows_with(
     alloc: Global,
     rows: &Rows,
-    sharing: Sharing,
     defs: &[u32],
     cause: &Cause,
-) -> Result<u64, AllocError>
+) -> Result<Rows, AllocError>
     requires defs { length defs.now ≡ length rows.now }
-    ensures { IfOk result (IsSpanWith rows.now sharing defs.now cause.now) }
+    ensures { IfOk result (IsWith rows.now defs.now cause.now) }
 {
     let mut copy = rows.copy(alloc)?;
     match cause {
-        Cause::Cost(def) => halved_span(alloc, copy, sharing, defs, *def),
-        Cause::Order(cowns) => span_of(alloc, without_all(alloc, copy, cowns)?, sharing),
-        Cause::Spawns(def) => {
-            spawn_early(alloc, &mut copy, defs, *def)?;
-            span_of(alloc, copy, sharing)
-        }
+        Cause::Cost(def) => halve(alloc, &mut copy, defs, *def)?,
+        Cause::Order(cowns) => copy = without_all(alloc, copy, cowns)?,
+        Cause::Spawns(def) => spawn_early(alloc, &mut copy, defs, *def)?,
     }
-}
-
-/// Returns for each cause the span that is left where the def's behaviours cost half as much, the cowns impose no order, or the def's behaviours spawn as
-/// early as they can: the end of the earliest plan, in ticks. These are the defs of the rows. `AllocError` says that memory was refused.
-///
-/// Each cause takes a copy of the rows, and memory and time that grow with the number of rows and their cowns; where cowns impose no order, one such
-/// copy after the other for each of them. Threads share out the causes.
-pub fn spans_with(
-    rt: &(impl Threads + Sync),
-    alloc: Global,
-    rows: &Rows,
-    sharing: Sharing,
-    defs: &[u32],
-    causes: &[Cause],
-) -> Result<Vec<u64>, AllocError>
-    requires defs { length defs.now ≡ length rows.now }
-    ensures { IfOk result (λ spans. AreSpansWith rows.now sharing defs.now causes.now spans.items) }
-{
-    (0..causes.len())
-        .into_par_iter()
-        .with_min_len(1)
-        .map(
-            |place: usize| -> Result<u64, AllocError>
-                requires { (place < length causes.now) × (length defs.now ≡ length rows.now) }
-                ensures { IfOk result (λ span. (cause : Cause) → slice_get causes.entry.now place ≡ Some cause
-                    → IsSpanWith rows.entry.now sharing defs.entry.now cause span) }
-            { span_with(alloc, rows, sharing, defs, &causes[place]) },
-        )
-        .collect::<Result<Vec<u64>, AllocError>>(rt, alloc)?
+    Ok(copy)
 }

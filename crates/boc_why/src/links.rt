@@ -26,6 +26,8 @@ pub enum Link {
     SpawnBy(u32),
     /// It hands these cowns to the next row, rising.
     Hands(HeldCowns),
+    /// It ends, and leaves its worker to the next row.
+    Frees,
     /// It ends, and all rows with it.
     Ends,
 }
@@ -90,8 +92,9 @@ fn code_of(link: &Link) -> u128
     ensures { IsCode link.now result }
 {
     match link {
-        Link::SpawnBy(def) => 2 * u128::from(*def) + 1,
+        Link::SpawnBy(def) => 2 * u128::from(*def) + 3,
         Link::Hands(cowns) => 2 * code_of_cowns(cowns.as_slice()),
+        Link::Frees => 1,
         Link::Ends => 0,
     }
 }

@@ -2,8 +2,7 @@
 
 ghost use Rattle.std.specs.Prelude.{◌≡◌, ◌<◌, ◌≤◌, length, IfOk, All};
 ghost use Rattle.boc_program.specs.declared.limits.TheConstants.{MOST_ROWS};
-ghost use Rattle.boc_plans.specs.declared.chain.ChainStep.{ChainStep};
-ghost use Rattle.boc_why.specs.Shares.{AreDefsOf, AreShares};
+ghost use Rattle.boc_why.specs.Shares.{AreDefsOf, AreShares, weights_of};
 ghost use Rattle.boc_why.specs.ShareTotals.{HasTotals, ListShares};
 
 use boc_plans::chain::ChainStep;
@@ -40,30 +39,34 @@ pub fn defs_of(alloc: Global, defs: &[u32], steps: &[ChainStep]) -> Result<Vec<u
     Ok(keys)
 }
 
-// Returns the ticks that a step weighs, which fit 32 bits.
-fn weight(step: &ChainStep) -> u32
-    ensures { result ≡ step.now.weight }
+/// Returns the ticks that each step weighs. `AllocError` says that memory was refused.
+pub fn weights_of(alloc: Global, steps: &[ChainStep]) -> Result<Vec<u32>, AllocError>
+    ensures { IfOk result (λ weights. weights.items ≡ weights_of steps.now) }
 {
-    step.weight
+    let mut weights = Vec::new(alloc);
+    for step in steps {
+        weights.push(step.weight)?;
+    }
+    Ok(weights)
 }
 
 // Returns the totals of the keys below the bound.
 fn totals_of(
     alloc: Global,
     keys: &[u32],
-    steps: &[ChainStep],
+    weights: &[u32],
     bound: usize,
 ) -> Result<Totals, AllocError>
-    requires whole { length keys.now ≡ length steps.now }
+    requires whole { length keys.now ≡ length weights.now }
     requires below { All (λ key. key < bound) keys.now }
-    requires few { length steps.now ≤ MOST_ROWS }
-    ensures { IfOk result (λ totals. HasTotals keys.now steps.now bound totals.ticks.items totals.steps.items) }
+    requires few { length weights.now ≤ MOST_ROWS }
+    ensures { IfOk result (λ totals. HasTotals keys.now weights.now bound totals.ticks.items totals.steps.items) }
 {
     let mut ticks = vec![in alloc; 0_u64; bound]?;
     let mut counts = vec![in alloc; 0_u32; bound]?;
-    for (place, step) in steps.iter().enumerate() {
+    for (place, weight) in weights.iter().enumerate() {
         let key = keys[place] as usize;
-        ticks[key] += u64::from(weight(step));
+        ticks[key] += u64::from(*weight);
         counts[key] += 1;
     }
     Ok(Totals {
@@ -76,15 +79,15 @@ fn totals_of(
 fn shares_by_key(
     alloc: Global,
     keys: &[u32],
-    steps: &[ChainStep],
+    weights: &[u32],
     bound: usize,
 ) -> Result<Vec<Share>, AllocError>
-    requires whole { length keys.now ≡ length steps.now }
+    requires whole { length keys.now ≡ length weights.now }
     requires below { All (λ key. key < bound) keys.now }
-    requires few { length steps.now ≤ MOST_ROWS }
-    ensures { IfOk result (λ shares. ListShares keys.now steps.now shares.items) }
+    requires few { length weights.now ≤ MOST_ROWS }
+    ensures { IfOk result (λ shares. ListShares keys.now weights.now shares.items) }
 {
-    let totals = totals_of(alloc, keys, steps, bound)?;
+    let totals = totals_of(alloc, keys, weights, bound)?;
     let mut shares = Vec::new(alloc);
     for key in 0..bound {
         let count = totals.steps[key];
@@ -100,21 +103,21 @@ fn shares_by_key(
 }
 
 /// Returns the shares of all keys of a chain, those that weigh most first, and of those that weigh as much the lowest key first. Each step has the key
-/// at its place, and keys are below the bound. `AllocError` says that memory was refused.
+/// and the weight at its place, and keys are below the bound. `AllocError` says that memory was refused.
 ///
 /// It takes time and memory that grow with the number of steps and with the bound, and for the order a little more time.
 pub fn shares_of(
     alloc: Global,
     keys: &[u32],
-    steps: &[ChainStep],
+    weights: &[u32],
     bound: usize,
 ) -> Result<Vec<Share>, AllocError>
-    requires whole { length keys.now ≡ length steps.now }
+    requires whole { length keys.now ≡ length weights.now }
     requires below { All (λ key. key < bound) keys.now }
-    requires few { length steps.now ≤ MOST_ROWS }
-    ensures { IfOk result (λ shares. AreShares keys.now steps.now shares.items) }
+    requires few { length weights.now ≤ MOST_ROWS }
+    ensures { IfOk result (λ shares. AreShares keys.now weights.now shares.items) }
 {
-    let mut shares = shares_by_key(alloc, keys, steps, bound)?;
+    let mut shares = shares_by_key(alloc, keys, weights, bound)?;
     shares.sort_unstable_by_key(|share| (Reverse(share.ticks), share.key));
     Ok(shares)
 }

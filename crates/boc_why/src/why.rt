@@ -3,18 +3,16 @@
 ghost use Rattle.std.specs.Prelude.{◌≡◌, ◌<◌, ◌≤◌, All, IfOk, length};
 ghost use Rattle.boc_program.specs.declared.limits.TheConstants.{MOST_COWNS, MOST_ROWS};
 ghost use Rattle.boc_why.specs.Why.{IsWhy};
-ghost use Rattle.boc_why.specs.WhySteps.{AreSharesByDef, AreSharesByLink, AreTried};
+ghost use Rattle.boc_why.specs.WhySteps.{AreSharesByDef, AreSharesByLink};
 
 use crate::links::{Link, firsts, links_of};
-use crate::remedies::{Candidate, Remedy, candidates, handed_families, tried};
-use crate::shares::{Share, defs_of, shares_of};
+use crate::shares::{Share, defs_of, shares_of, weights_of};
 use boc_order::{Least, Profile, least_end, profile};
 use boc_plans::chain::ChainStep;
 use boc_plans::sharing::{SeenRows, Sharing};
 use boc_program::limits::MOST_ROWS;
 use boc_runs::rows::Rows;
 use std::alloc::{AllocError, Global};
-use std::thread::Threads;
 
 /// Why some rows take as long as they do. All times are ticks.
 #[derive(Drop, Debug)]
@@ -27,8 +25,6 @@ pub struct Why {
     pub by_def: Vec<Share>,
     /// The shares of the chain by link: a key is the first place of the chain with that link.
     pub by_link: Vec<Share>,
-    /// What would move the end forward, best first.
-    pub candidates: Vec<Candidate>,
     /// A lower bound for any order on the cowns.
     pub least: Least,
 }
@@ -46,58 +42,41 @@ pub fn shares_by_def(
     ensures { IfOk result (λ shares. AreSharesByDef defs.now steps.now shares.items) }
 {
     let keys = defs_of(alloc, defs, steps)?;
-    shares_of(alloc, &keys, steps, MOST_ROWS)
+    let weights = weights_of(alloc, steps)?;
+    shares_of(alloc, &keys, &weights, MOST_ROWS)
 }
 
-// Returns the shares of a chain by its links. `AllocError` says that memory was refused.
-fn shares_by_link(
+/// Returns the shares of a chain by its links, whose steps have these weights: a key is the first place of the chain with that link. `AllocError` says that
+/// memory was refused.
+pub fn shares_by_link(
     alloc: Global,
     links: &[Link],
-    steps: &[ChainStep],
+    weights: &[u32],
 ) -> Result<Vec<Share>, AllocError>
-    requires whole { length links.now ≡ length steps.now }
-    requires few { length steps.now ≤ MOST_ROWS }
-    ensures are { IfOk result (λ shares. AreSharesByLink links.now steps.now shares.items) }
+    requires whole { length links.now ≡ length weights.now }
+    requires few { length weights.now ≤ MOST_ROWS }
+    ensures are { IfOk result (λ shares. AreSharesByLink links.now weights.now shares.items) }
     ensures keys { IfOk result (λ shares. All (λ s. s.key < length links.now) shares.items) }
 {
     let keys = firsts(alloc, links)?;
-    shares_of(alloc, &keys, steps, links.len())
+    shares_of(alloc, &keys, weights, links.len())
 }
 
-// Returns what is tried for a chain with these shares and links. `AllocError` says that memory was refused.
-fn tried_for(
-    alloc: Global,
-    by_def: &[Share],
-    by_link: &[Share],
-    links: &[Link],
-    families: &[u32],
-) -> Result<Vec<Remedy>, AllocError>
-    requires few_families { All (λ f. f < MOST_COWNS) families.now }
-    ensures { IfOk result (λ remedies. AreTried by_def.now by_link.now links.now families.now remedies.items) }
-{
-    let handed = handed_families(alloc, links, families)?;
-    tried(alloc, by_def, by_link, links, &handed)
-}
-
-/// Returns why some rows take as long as they do: the chain that holds them back, what leads on from each of its steps, its shares by def and by link, what
-/// would move the end forward, best first, and a lower bound for any order on the cowns. These are the defs of the rows, and each cown
-/// belongs to the family at its place. `AllocError` says that memory was refused.
+/// Returns why some rows take as long as they do: the chain that holds them back, what leads on from each of its steps, its shares by def and by link, and a
+/// lower bound for any order on the first cowns, this many. These are the defs of the rows. `AllocError` says that memory was refused.
 ///
-/// Each remedy that is tried takes a plan of its own, with memory and time that grow with the number of rows and their cowns; to leave out an array
-/// takes a copy of the rows for each of its cowns. Threads share out these plans.
+/// It takes memory and time that grow with the number of rows and their cowns.
 pub fn why_of(
-    rt: &(impl Threads + Sync),
     alloc: Global,
     rows: &Rows,
     sharing: Sharing,
     defs: &[u32],
-    families: &[u32],
+    cowns: usize,
 ) -> Result<Why, AllocError>
     requires defs { length defs.now ≡ length rows.now }
     requires few_defs { All (λ d. d < MOST_ROWS) defs.now }
-    requires cowns { length families.now ≤ MOST_COWNS }
-    requires few_families { All (λ f. f < MOST_COWNS) families.now }
-    ensures why { IfOk result (IsWhy rows.now sharing defs.now families.now (length families.now)) }
+    requires cowns { cowns ≤ MOST_COWNS }
+    ensures why { IfOk result (IsWhy rows.now sharing defs.now cowns) }
     ensures there { IfOk result (λ w. All (λ s. s.row < length w.profile.starts.items) w.profile.chain.steps.items) }
     ensures whole { IfOk result (λ w. length w.links.items ≡ length w.profile.chain.steps.items) }
     ensures keys { IfOk result (λ w. All (λ s. s.key < length w.links.items) w.by_link.items) }
@@ -107,16 +86,14 @@ pub fn why_of(
     let steps = &profile.chain.steps;
     let links = links_of(alloc, &seen, defs, steps)?;
     let by_def = shares_by_def(alloc, defs, steps)?;
-    let by_link = shares_by_link(alloc, &links, steps)?;
-    let tried = tried_for(alloc, &by_def, &by_link, &links, families)?;
-    let candidates = candidates(rt, alloc, rows, sharing, defs, families, &tried)?;
-    let least = least_end(alloc, &seen, families.len())?;
+    let weights = weights_of(alloc, steps)?;
+    let by_link = shares_by_link(alloc, &links, &weights)?;
+    let least = least_end(alloc, &seen, cowns)?;
     Ok(Why {
         profile,
         links,
         by_def,
         by_link,
-        candidates,
         least,
     })
 }

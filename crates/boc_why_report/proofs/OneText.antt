@@ -12,10 +12,7 @@ use Rattle.boc_names.specs.Stretches.{stretches}
 use Rattle.boc_order.specs.declared.least.Busiest.{Busiest}
 use Rattle.boc_order.specs.declared.least.Least.{Least}
 use Rattle.boc_why.specs.declared.links.Link.{Link}
-use Rattle.boc_why.specs.declared.links.Link.TheVariants.{SpawnBy, Hands, Ends}
-use Rattle.boc_why.specs.declared.remedies.Candidate.{Candidate}
-use Rattle.boc_why.specs.declared.remedies.Remedy.{Remedy}
-use Rattle.boc_why.specs.declared.remedies.Remedy.TheVariants.{HalfCost, NoOrder, EarlySpawns}
+use Rattle.boc_why.specs.declared.links.Link.TheVariants.{SpawnBy, Hands, Frees, Ends}
 use Rattle.boc_why.specs.declared.shares.Share.{Share}
 use Rattle.boc_why.specs.declared.why.Why.{Why}
 use Rattle.boc_order.specs.Least.{tick_of}
@@ -28,8 +25,13 @@ use Rattle.boc_why_report.specs.ChainTexts.{folded_text, handed_text, hands_text
 use Rattle.boc_why_report.specs.ChainTexts.{rows_text, spawns_texts, stretch_lines, stretch_texts, then_text, told_chain}
 use Rattle.boc_why_report.specs.ShortTexts.{ComeToTheSame, chain_line, end_texts, greedy_texts, heaviest_text, more_shares, share_text, short_head}
 use Rattle.boc_why_report.specs.ShortTexts.{short_lines, short_sides, short_text, work_texts}
-use Rattle.boc_why_report.specs.WhyTexts.{at_most, beside, bound_text, busy_text, candidates_text, entry_texts, from_text, head_text, least_text}
-use Rattle.boc_why_report.specs.WhyTexts.{link_at, list_sides, reason_text, remedy_text, shares_head, shares_sides, shares_text, timed_end_text, told_with}
+use Rattle.boc_why_report.specs.WhyTexts.{at_most, beside, bound_text, busy_text, chain_told, entry_texts, from_text, head_text, least_text}
+use Rattle.boc_why_report.specs.WhyTexts.{link_at, link_lines, def_lines, reason_text, shares_head, shares_of_chain, shares_sides, timed_end_text}
+
+-- the head has one text
+pub head_same : (why other : Why) → SayTheSame why other → (timed : Option TimedEnd) → head_text why timed ≡ head_text other timed
+head_same why other alike timed = λ i. codes "rows " ++ decimal (length (alike.starts i)) ++ codes "   work " ++ decimal (alike.work i) ++ codes "   span "
+    ++ decimal (alike.span i) ++ timed_end_text timed ++ codes "\n"
 
 module _ (a b : Names) (same : CallTheSame a b) where
   -- ---- the chain
@@ -37,6 +39,7 @@ module _ (a b : Names) (same : CallTheSame a b) where
   link_same : (link : Link) → link_text a link ≡ link_text b link
   link_same (SpawnBy def) = λ i. codes "spawn by " ++ text_at (same.def_names i) def
   link_same (Hands cowns) = λ i. handed_text (same.cowns i) cowns.items
+  link_same Frees = refl
   link_same Ends = refl
 
   then_same : (link : Link) (next : Option ChainStep) → then_text a link next ≡ then_text b link next
@@ -44,6 +47,8 @@ module _ (a b : Names) (same : CallTheSame a b) where
   then_same (SpawnBy def) None = refl
   then_same (Hands cowns) (Some next) = λ i. codes "hands " ++ handed_text (same.cowns i) cowns.items ++ codes " to row " ++ decimal next.row
   then_same (Hands cowns) None = refl
+  then_same Frees (Some next) = refl
+  then_same Frees None = refl
   then_same Ends (Some next) = refl
   then_same Ends None = refl
 
@@ -68,16 +73,18 @@ module _ (a b : Names) (same : CallTheSame a b) where
   stretch_same starts stretch = λ i. cond (nat_lt (length stretch) 4) (map (λ (leg : Leg). leg_same starts leg i) stretch)
       (stretch_texts_same starts stretch i ∷ [])
 
-  -- ---- candidates, and the rest
+  -- ---- lists, and the rest
 
   link_at_same : (link : Option Link) → link_at a link ≡ link_at b link
   link_at_same None = refl
   link_at_same (Some link) = link_same link
 
-  remedy_same : (remedy : Remedy) → remedy_text a remedy ≡ remedy_text b remedy
-  remedy_same (HalfCost def) = λ i. text_at (same.def_names i) def ++ codes " at 1/2"
-  remedy_same (NoOrder family) = λ i. codes "without " ++ text_at (same.family_names i) family
-  remedy_same (EarlySpawns def) = λ i. codes "early spawns by " ++ text_at (same.def_names i) def
+  -- shares by def, and shares by link, have the same lines
+  pub def_lines_same : (shares : List Share) → def_lines a shares ≡ def_lines b shares
+  def_lines_same shares = λ i. map (λ (s : Share). entry_texts (text_at (same.def_names i) s.key) s.ticks s.steps) shares
+
+  pub link_lines_same : (links : List Link) (shares : List Share) → link_lines a links shares ≡ link_lines b links shares
+  link_lines_same links shares = λ i. map (λ (s : Share). entry_texts (link_at_same (slice_get links s.key) i) s.ticks s.steps) shares
 
   reason_same : (sharing : Sharing) (spawns : ℕ) (busiest : Option Busiest) → reason_text a sharing spawns busiest ≡ reason_text b sharing spawns busiest
   reason_same sharing spawns None = refl
@@ -88,7 +95,7 @@ module _ (a b : Names) (same : CallTheSame a b) where
   pub least_text_same : (sharing : Sharing) (least other : Least) → least ≡ other → least_text a sharing least ≡ least_text b sharing other
   least_text_same sharing least other e = λ i. bound_text (tick_of (e i)) ++ reason_same sharing (e i).spawns (e i).busiest i ++ codes ")\n"
 
-  module _ (sharing : Sharing) (why other : Why) (alike : SayTheSame why other) where
+  module _ (why other : Why) (alike : SayTheSame why other) where
     chain_same : chain_text a why ≡ chain_text b other
     chain_same = λ i. codes "chain\n" ++ table_text chain_sides
         (chain_head ∷ map (λ (leg : Leg). leg_same (alike.starts i) leg i) (legs (alike.steps i) (alike.links i)) ++ chain_foot (alike.span i) ∷ [])
@@ -101,27 +108,14 @@ module _ (a b : Names) (same : CallTheSame a b) where
     told_same : (all : Bool) → told_chain a all why ≡ told_chain b all other
     told_same all = λ i. cond all (chain_same i) (folded_same i)
 
-    shares_same : shares_text a why ≡ shares_text b other
+    shares_same : shares_of_chain a why ≡ shares_of_chain b other
     shares_same = λ i. table_text shares_sides
-        (shares_head ∷ beside
-        (at_most (map (λ (s : Share). entry_texts (text_at (same.def_names i) s.key) s.ticks s.steps) (alike.by_def i)))
-        (at_most (map (λ (s : Share). entry_texts (link_at_same (slice_get (alike.links i) s.key) i) s.ticks s.steps) (alike.by_link i))))
+        (shares_head (codes "chain by def") (codes "chain by link") ∷ beside
+        (at_most (def_lines_same (alike.by_def i) i)) (at_most (link_lines_same (alike.links i) (alike.by_link i) i)))
 
-    candidates_same : candidates_text a why ≡ candidates_text b other
-    candidates_same = λ i. table_text list_sides
-        ((codes "candidates" ∷ codes "span" ∷ codes "less" ∷ [])
-        ∷ at_most (map (λ (c : Candidate). entry_texts (remedy_same c.remedy i) c.span (alike.span i - c.span)) (alike.candidates i)))
-
-    head_same : (timed : Option TimedEnd) → head_text why timed ≡ head_text other timed
-    head_same timed = λ i. codes "rows " ++ decimal (length (alike.starts i)) ++ codes "   work " ++ decimal (alike.work i) ++ codes "   span "
-        ++ decimal (alike.span i) ++ timed_end_text timed ++ codes "\n"
-
-    least_same : least_text a sharing why.least ≡ least_text b sharing other.least
-    least_same = least_text_same sharing why.least other.least alike.least
-
-    pub one_text : (all : Bool) (timed : Option TimedEnd)
-        → told_with a sharing timed why (told_chain a all why) ≡ told_with b sharing timed other (told_chain b all other)
-    one_text all timed = λ i. head_same timed i ++ codes "\n" ++ told_same all i ++ codes "\n" ++ shares_same i ++ candidates_same i ++ least_same i
+    -- the chain has one text
+    pub one_chain : (all : Bool) → chain_told a all why ≡ chain_told b all other
+    one_chain all = λ i. codes "\n" ++ told_same all i ++ codes "\n" ++ shares_same i
 
   -- ---- what is told in short
 

@@ -11,7 +11,7 @@ use Rattle.boc_names.specs.declared.names.Names.{Names}
 use Rattle.boc_names.specs.Names.{Text, separated, text_at, texts_of}
 use Rattle.boc_names.specs.Stretches.{stretches}
 use Rattle.boc_why.specs.declared.links.Link.{Link}
-use Rattle.boc_why.specs.declared.links.Link.TheVariants.{SpawnBy, Hands, Ends}
+use Rattle.boc_why.specs.declared.links.Link.TheVariants.{SpawnBy, Hands, Frees, Ends}
 use Rattle.boc_why.specs.declared.why.Why.{Why}
 use Rattle.boc_why.specs.Shares.{def_of}
 
@@ -31,6 +31,7 @@ handed_text names (c ∷ cowns) = text_at names c ++ more_handed names cowns
 abbrev pub link_text : Names → Link → Text
 link_text names (SpawnBy def) = codes "spawn by " ++ text_at (texts_of names.def_names.items) def
 link_text names (Hands cowns) = handed_text (texts_of names.cowns.items) cowns.items
+link_text names Frees = codes "worker"
 link_text names Ends = codes "end"
 
 -- ---- the chain
@@ -39,6 +40,7 @@ link_text names Ends = codes "end"
 abbrev pub then_text : Names → Link → Option ChainStep → Text
 then_text names (SpawnBy def) (Some next) = codes "spawns row " ++ decimal next.row
 then_text names (Hands cowns) (Some next) = codes "hands " ++ handed_text (texts_of names.cowns.items) cowns.items ++ codes " to row " ++ decimal next.row
+then_text names Frees next = []
 then_text names Ends next = codes "ends"
 then_text names link None = []
 
@@ -104,18 +106,21 @@ are_of_one_def defs a b = def_of defs a.step.row == def_of defs b.step.row
 abbrev pub is_spawn : Link → Bool
 is_spawn (SpawnBy def) = true
 is_spawn (Hands cowns) = false
+is_spawn Frees = false
 is_spawn Ends = false
 
 -- a link hands cowns on
 abbrev pub is_hand : Link → Bool
 is_hand (SpawnBy def) = false
 is_hand (Hands cowns) = true
+is_hand Frees = false
 is_hand Ends = false
 
 -- a link hands on this cown too, if it hands on any
 abbrev pub hands_too : ℕ → Link → Bool
 hands_too c (SpawnBy def) = true
 hands_too c (Hands cowns) = list_any (λ other. other == c) cowns.items
+hands_too c Frees = true
 hands_too c Ends = true
 
 -- The cowns that some links hand on in common, those links left out that hand on none: the cowns of the first that hands on some, as far as each link
@@ -124,6 +129,7 @@ abbrev pub common : List Link → List ℕ
 common [] = []
 common (SpawnBy def ∷ links) = common links
 common (Hands cowns ∷ links) = filter (λ c. list_all (hands_too c) links) cowns.items
+common (Frees ∷ links) = common links
 common (Ends ∷ links) = common links
 
 -- cowns by their names, behind a blank; nothing where there is none

@@ -1,4 +1,4 @@
--- What is told of why some rows take as long as they do.
+-- What is told of the chain that holds some rows back.
 use Rattle.std.specs.Prelude.{◌≡◌, ◌-◌, ℕ, zero, suc, List, [], ◌∷◌, ◌++◌, length, map, take, cond, nat_eq, nat_lt, Bool, Option, Some, None, slice_get, codes, decimal}
 use Rattle.boc_plans.specs.declared.sharing.Sharing.{Sharing}
 use Rattle.boc_plans.specs.declared.sharing.Sharing.TheVariants.{Exclusive, SharedReads}
@@ -12,9 +12,6 @@ use Rattle.boc_why.specs.declared.shares.Share.{Share}
 use Rattle.boc_order.specs.declared.least.Busiest.{Busiest}
 use Rattle.boc_order.specs.declared.least.Least.{Least}
 use Rattle.boc_order.specs.Least.{tick_of}
-use Rattle.boc_why.specs.declared.remedies.Remedy.{Remedy}
-use Rattle.boc_why.specs.declared.remedies.Remedy.TheVariants.{HalfCost, NoOrder, EarlySpawns}
-use Rattle.boc_why.specs.declared.remedies.Candidate.{Candidate}
 use Rattle.boc_why.specs.declared.why.Why.{Why}
 use Rattle.boc_why_report.specs.ChainTexts.{link_text, told_chain}
 use Rattle.boc_why_report.specs.declared.told.TimedEnd.{TimedEnd}
@@ -71,39 +68,26 @@ beside (a ∷ rest) (b ∷ others) = (a ++ [] ∷ b) ∷ beside rest others
 abbrev pub list_sides : List Side
 list_sides = Left ∷ Right ∷ Right ∷ []
 
--- what stands above the shares
-abbrev pub shares_head : List Text
-shares_head =
-    codes "chain by def" ∷ codes "ticks" ∷ codes "rows" ∷ codes "    " ∷ codes "chain by link" ∷ codes "ticks" ∷ codes "links" ∷ []
+-- what stands above the shares, where these words tell which
+abbrev pub shares_head : Text → Text → List Text
+shares_head left right = left ∷ codes "ticks" ∷ codes "rows" ∷ codes "    " ∷ right ∷ codes "ticks" ∷ codes "links" ∷ []
 
 -- the sides of the columns of two lists beside each other
 abbrev pub shares_sides : List Side
 shares_sides = list_sides ++ Left ∷ list_sides
 
 -- the lines of the shares by def, and beside them of those by link
-abbrev pub shares_lines : Names → Why → List (List Text)
-shares_lines names why =
-    shares_head ∷ beside (at_most (def_lines names why.by_def.items)) (at_most (link_lines names why.links.items why.by_link.items))
+abbrev pub shares_lines : Names → Text → Text → List Share → List Link → List Share → List (List Text)
+shares_lines names left right by_def links by_link =
+    shares_head left right ∷ beside (at_most (def_lines names by_def)) (at_most (link_lines names links by_link))
 
 -- the shares by def, and beside them those by link
-abbrev pub shares_text : Names → Why → Text
-shares_text names why = table_text shares_sides (shares_lines names why)
+abbrev pub shares_text : Names → Text → Text → List Share → List Link → List Share → Text
+shares_text names left right by_def links by_link = table_text shares_sides (shares_lines names left right by_def links by_link)
 
--- what a remedy is called
-abbrev pub remedy_text : Names → Remedy → Text
-remedy_text names (HalfCost def) = text_at (texts_of names.def_names.items) def ++ codes " at 1/2"
-remedy_text names (NoOrder family) = codes "without " ++ text_at (texts_of names.family_names.items) family
-remedy_text names (EarlySpawns def) = codes "early spawns by " ++ text_at (texts_of names.def_names.items) def
-
--- the lines of what would bring the end forward: what is left of this span, and how much less that is
-abbrev pub candidate_lines : Names → ℕ → List Candidate → List (List Text)
-candidate_lines names span candidates = map (λ c. entry_texts (remedy_text names c.remedy) c.span (span - c.span)) candidates
-
--- what would bring the end forward
-abbrev pub candidates_text : Names → Why → Text
-candidates_text names why =
-    table_text list_sides
-    ((codes "candidates" ∷ codes "span" ∷ codes "less" ∷ []) ∷ at_most (candidate_lines names why.profile.span why.candidates.items))
+-- the shares of the chain that holds rows back
+abbrev pub shares_of_chain : Names → Why → Text
+shares_of_chain names why = shares_text names (codes "chain by def") (codes "chain by link") why.by_def.items why.links.items why.by_link.items
 
 -- ---- the rest
 
@@ -156,18 +140,10 @@ bound_text tick = codes "lower bound for any order: " ++ decimal tick ++ codes "
 abbrev pub least_text : Names → Sharing → Least → Text
 least_text names sharing least = bound_text (tick_of least) ++ reason_text names sharing least.spawns least.busiest ++ codes ")\n"
 
--- All that is told, with this chain
-abbrev pub told_with : Names → Sharing → Option TimedEnd → Why → Text → Text
-told_with names sharing timed why chain =
-    head_text why timed ++ codes "\n" ++ chain ++ codes "\n" ++ shares_text names why ++ candidates_text names why ++ least_text names sharing why.least
+-- the text of the chain, and its shares, each behind an empty line
+abbrev pub with_shares : Names → Why → Text → Text
+with_shares names why chain = codes "\n" ++ chain ++ codes "\n" ++ shares_of_chain names why
 
--- What is told of why some rows take as long as they do. Where all of the chain is asked for it has a line for each step; else four or more steps of one def
--- that follow each other stand in one line.
-pub record IsWhyText (names : Names) (sharing : Sharing) (all : Bool) (timed : Option TimedEnd) (why : Why) (text : Text) : Type 0 where
-  pub is : text ≡ told_with names sharing timed why (told_chain names all why)
-
--- the line of a greedy plan for so many workers, with its end and its bound
-abbrev pub greedy_line : ℕ → ℕ → ℕ → Text
-greedy_line workers ends_at bound =
-    codes "the greedy plan for " ++ decimal workers ++ codes " workers ends at " ++ decimal ends_at ++ codes ", its bound is " ++ decimal bound
-    ++ codes "\n"
+-- the chain, all of its lines or folded, and its shares
+abbrev pub chain_told : Names → Bool → Why → Text
+chain_told names all why = with_shares names why (told_chain names all why)

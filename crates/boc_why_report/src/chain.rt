@@ -21,8 +21,8 @@ pub(crate) const CHAIN_SIDES: [Side; 6] = [
     Side::Left,
 ];
 
-/// Returns a number, as a text.
-pub(crate) fn number(alloc: Global, number: u64) -> Result<Vec<u8>, AllocError>
+/// Returns a number, as a text. `AllocError` says that memory was refused.
+pub fn number(alloc: Global, number: u64) -> Result<Vec<u8>, AllocError>
     ensures { IfOk result (λ text. text.items ≡ decimal number) }
 {
     let mut text = Vec::new(alloc);

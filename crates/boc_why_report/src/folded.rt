@@ -55,7 +55,7 @@ fn is_spawn(link: &Link) -> bool
 {
     match link {
         Link::SpawnBy(_) => true,
-        Link::Hands(_) | Link::Ends => false,
+        Link::Hands(_) | Link::Frees | Link::Ends => false,
     }
 }
 
@@ -72,7 +72,7 @@ fn is_hand(link: &Link) -> bool
 {
     match link {
         Link::Hands(_) => true,
-        Link::SpawnBy(_) | Link::Ends => false,
+        Link::SpawnBy(_) | Link::Frees | Link::Ends => false,
     }
 }
 
@@ -89,7 +89,7 @@ fn hands_too(link: &Link, cown: HeldCown) -> bool
 {
     match link {
         Link::Hands(cowns) => cowns.as_slice().contains(&cown),
-        Link::SpawnBy(_) | Link::Ends => true,
+        Link::SpawnBy(_) | Link::Frees | Link::Ends => true,
     }
 }
 
@@ -121,7 +121,7 @@ fn common_cowns(alloc: Global, links: &[Link]) -> Result<Vec<HeldCown>, AllocErr
     while let [first, others @ ..] = rest {
         match first {
             Link::Hands(cowns) => return kept_by(alloc, cowns.as_slice(), others),
-            Link::SpawnBy(_) | Link::Ends => rest = others,
+            Link::SpawnBy(_) | Link::Frees | Link::Ends => rest = others,
         }
     }
     Ok(Vec::new(alloc))

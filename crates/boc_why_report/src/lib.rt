@@ -1,4 +1,4 @@
-//! What is reported of why some rows take as long as they do, in the names of their program.
+//! What is reported of the chain that holds some rows back, in the names of their program.
 #![tactic(auto)]
 
 mod chain;
@@ -9,5 +9,7 @@ mod short;
 mod told;
 mod words;
 
+pub use chain::number;
+pub use lists::{Shares, put_shares};
 pub use short::{Outcome, short_text};
-pub use told::{TimedEnd, put_greedy_line, put_least, why_text};
+pub use told::{TimedEnd, put_chain, put_head, put_least, workers_word};

@@ -1,23 +1,20 @@
-// The shares of a chain, and what would move its end forward.
+// The shares of a chain.
 
 ghost use Rattle.std.specs.Prelude.{◌≡◌, ◌++◌, ◌<◌, All, length, map, take, IfOk, OnOk};
 ghost use Rattle.boc_why_report.specs.declared.lists.TheConstants.{MOST_LISTED};
-ghost use Rattle.boc_why_report.specs.WhyTexts.{at_most, beside, candidate_lines, candidates_text, def_lines, entry_texts, link_lines, link_share_texts};
+ghost use Rattle.boc_why_report.specs.WhyTexts.{at_most, beside, def_lines, entry_texts, link_lines, link_share_texts};
 ghost use Rattle.boc_why_report.specs.WhyTexts.{more_line, more_texts, shares_lines, shares_sides, shares_text, texts_of_line};
 
 use crate::chain::number;
-use crate::words::{link_text, remedy_text};
+use crate::words::link_text;
 use boc_names::{Names, text_at};
 use boc_table::{Side, Table, put_table};
 use boc_text::put_number;
-use boc_why::{Candidate, Link, Share, Why};
+use boc_why::{Link, Share};
 use std::alloc::{AllocError, Global};
 
 // The most lines of a list. How many more there are is reported on a line after them.
 const MOST_LISTED: usize = 20;
-
-// The sides of a list's columns.
-const LIST_SIDES: [Side; 3] = [Side::Left, Side::Right, Side::Right];
 
 // The sides of the columns of two lists with each other.
 const SHARES_SIDES: [Side; 7] = [
@@ -126,26 +123,6 @@ fn link_lines(
     Ok(lines)
 }
 
-// Returns the lines of what would move the end forward, at most this many.
-fn candidate_lines(
-    alloc: Global,
-    names: &Names,
-    span: u64,
-    candidates: &[Candidate],
-) -> Result<Vec<Line>, AllocError>
-    ensures { IfOk result (λ lines. map texts_of_line lines.items ≡ at_most (candidate_lines names.now span candidates.now)) }
-{
-    let mut lines = Vec::new(alloc);
-    let listed = &candidates[..candidates.len().min(MOST_LISTED)];
-    for candidate in listed {
-        let name = remedy_text(alloc, names, candidate.remedy)?;
-        let less = span.saturating_sub(candidate.span);
-        lines.push(entry(alloc, &name, candidate.span, less)?)?;
-    }
-    put_more(alloc, &mut lines, candidates.len())?;
-    Ok(lines)
-}
-
 // Puts the lines of two lists with each other.
 fn put_beside(table: &mut Table, left: &[Line], right: &[Line]) -> Result<(), AllocError>
     requires { length table.old.sides ≡ 7 }
@@ -179,65 +156,49 @@ fn put_beside(table: &mut Table, left: &[Line], right: &[Line]) -> Result<(), Al
     }
 }
 
-// Returns the table of the shares by def, and next to them those by link.
-fn shares_table(alloc: Global, names: &Names, why: &Why) -> Result<Table, AllocError>
-    requires { All (λ s. s.key < length why.now.links.items) why.now.by_link.items }
+/// The shares of a chain by def and by link, and what its links are.
+#[derive(Clone, Copy)]
+pub struct Shares<'a> {
+    pub by_def: &'a [Share],
+    /// A key is the first place of the chain with that link.
+    pub by_link: &'a [Share],
+    pub links: &'a [Link],
+}
+
+// Returns the table of the shares by def, and next to them those by link, with these words above them.
+fn shares_table(
+    alloc: Global,
+    names: &Names,
+    left: &[u8],
+    right: &[u8],
+    shares: &Shares<'_>,
+) -> Result<Table, AllocError>
+    requires { All (λ s. s.key < length shares.now.links.now) shares.now.by_link.now }
     ensures sides { IfOk result (λ table. table.sides ≡ shares_sides) }
-    ensures lines { IfOk result (λ table. table.lines ≡ shares_lines names.now why.now) }
+    ensures lines { IfOk result (λ table. table.lines ≡ shares_lines names.now left.now right.now shares.now.by_def.now shares.now.links.now
+        shares.now.by_link.now) }
 {
-    let defs = def_lines(alloc, names, &why.by_def)?;
-    let links = link_lines(alloc, names, &why.links, &why.by_link)?;
+    let defs = def_lines(alloc, names, shares.by_def)?;
+    let links = link_lines(alloc, names, shares.links, shares.by_link)?;
     let mut table = Table::new(alloc, &SHARES_SIDES);
-    table.put_line(&[
-        b"chain by def",
-        b"ticks",
-        b"rows",
-        b"    ",
-        b"chain by link",
-        b"ticks",
-        b"links",
-    ])?;
+    table.put_line(&[left, b"ticks", b"rows", b"    ", right, b"ticks", b"links"])?;
     put_beside(&mut table, &defs, &links)?;
     Ok(table)
 }
 
-/// Appends the shares by def to a text, and next to them those by link.
-pub(crate) fn put_shares(
+/// Appends the shares of a chain by def to a text, and next to them those by link, with these words above them. `AllocError` says that memory was refused.
+pub fn put_shares(
     alloc: Global,
     text: &mut Vec<u8>,
     names: &Names,
-    why: &Why,
+    left: &[u8],
+    right: &[u8],
+    shares: &Shares<'_>,
 ) -> Result<(), AllocError>
-    requires { All (λ s. s.key < length why.now.links.items) why.now.by_link.items }
-    ensures { OnOk result (text.new.items ≡ text.old.items ++ shares_text names.now why.now) }
+    requires { All (λ s. s.key < length shares.now.links.now) shares.now.by_link.now }
+    ensures { OnOk result (text.new.items ≡ text.old.items ++ shares_text names.now left.now right.now shares.now.by_def.now
+        shares.now.links.now shares.now.by_link.now) }
 {
-    let table = shares_table(alloc, names, why)?;
-    put_table(text, &table)
-}
-
-// Puts the lines of a list.
-fn put_lines(table: &mut Table, lines: &[Line]) -> Result<(), AllocError>
-    requires { length table.old.sides ≡ 3 }
-    ensures { OnOk result (table.new ≡ record table.old { lines = table.old.lines ++ map texts_of_line lines.now }) }
-{
-    for line in lines {
-        table.put_line(&[&line.name, &line.first, &line.second])?;
-    }
-    Ok(())
-}
-
-/// Appends to a text what would move the end forward.
-pub(crate) fn put_candidates(
-    alloc: Global,
-    text: &mut Vec<u8>,
-    names: &Names,
-    why: &Why,
-) -> Result<(), AllocError>
-    ensures { OnOk result (text.new.items ≡ text.old.items ++ candidates_text names.now why.now) }
-{
-    let lines = candidate_lines(alloc, names, why.profile.span, &why.candidates)?;
-    let mut table = Table::new(alloc, &LIST_SIDES);
-    table.put_line(&[b"candidates", b"span", b"less"])?;
-    put_lines(&mut table, &lines)?;
+    let table = shares_table(alloc, names, left, right, shares)?;
     put_table(text, &table)
 }

@@ -1,14 +1,14 @@
-// All that is reported.
+// What is reported of the chain that holds some rows back, above and below it.
 
 ghost use Rattle.std.specs.Prelude.{◌≡◌, ◌++◌, ◌<◌, All, length, IfOk, OnOk};
 ghost use Rattle.boc_plans.specs.Chains.{weight_of};
 ghost use Rattle.boc_why_report.specs.ChainTexts.{told_chain};
-ghost use Rattle.boc_why_report.specs.WhyTexts.{bound_text, busy_text, from_text, head_text, least_text, load_text, reason_text, tick_text, told_with};
-ghost use Rattle.boc_why_report.specs.WhyTexts.{IsWhyText, greedy_line, timed_end_text, workers_word};
+ghost use Rattle.boc_why_report.specs.WhyTexts.{bound_text, busy_text, chain_told, from_text, head_text, least_text, load_text, reason_text, tick_text};
+ghost use Rattle.boc_why_report.specs.WhyTexts.{shares_of_chain, timed_end_text, with_shares, workers_word};
 
 use crate::chain::chain_text;
 use crate::folded::folded_text;
-use crate::lists::{put_candidates, put_shares};
+use crate::lists::{Shares, put_shares};
 use boc_names::{Names, text_at};
 use boc_order::{Busiest, Least};
 use boc_plans::sharing::Sharing;
@@ -25,8 +25,9 @@ pub struct TimedEnd {
     pub tick: u64,
 }
 
-// Appends the numbers at the head to a text.
-fn put_head(text: &mut Vec<u8>, why: &Why, timed: Option<TimedEnd>) -> Result<(), AllocError>
+/// Appends the numbers at the head to a text: the rows, their work, their span, and the end of a timed run, if it is one. `AllocError` says that memory was
+/// refused.
+pub fn put_head(text: &mut Vec<u8>, why: &Why, timed: Option<TimedEnd>) -> Result<(), AllocError>
     ensures { OnOk result (text.new.items ≡ text.old.items ++ head_text why.now timed) }
 {
     text.extend_from_slice(b"rows ")?;
@@ -54,8 +55,8 @@ fn put_timed_end(text: &mut Vec<u8>, timed: Option<TimedEnd>) -> Result<(), Allo
     text.extend_from_slice(workers_word(end.workers).as_bytes())
 }
 
-// Returns the word after a number of workers.
-fn workers_word(workers: u32) -> &'static str
+/// Returns the word after a number of workers.
+pub fn workers_word(workers: u32) -> &'static str
     ensures { result.now ≡ workers_word workers }
 {
     if workers == 1 { " worker" } else { " workers" }
@@ -162,68 +163,64 @@ fn told_chain(alloc: Global, names: &Names, all: bool, why: &Why) -> Result<Vec<
     }
 }
 
-// Returns all that is reported, with this chain.
-fn told_with(
+// Appends the shares of the chain that holds some rows back to a text.
+fn put_shares_of_chain(
     alloc: Global,
+    text: &mut Vec<u8>,
     names: &Names,
-    sharing: Sharing,
-    timed: Option<TimedEnd>,
+    why: &Why,
+) -> Result<(), AllocError>
+    requires keys { All (λ s. s.key < length why.now.links.items) why.now.by_link.items }
+    ensures { OnOk result (text.new.items ≡ text.old.items ++ shares_of_chain names.now why.now) }
+{
+    let shares = Shares {
+        by_def: &why.by_def,
+        by_link: &why.by_link,
+        links: &why.links,
+    };
+    put_shares(
+        alloc,
+        text,
+        names,
+        b"chain by def",
+        b"chain by link",
+        &shares,
+    )
+}
+
+// Appends the text of the chain to another, and its shares, each after an empty line.
+fn put_with_shares(
+    alloc: Global,
+    text: &mut Vec<u8>,
+    names: &Names,
     why: &Why,
     chain: &[u8],
-) -> Result<Vec<u8>, AllocError>
+) -> Result<(), AllocError>
     requires keys { All (λ s. s.key < length why.now.links.items) why.now.by_link.items }
-    ensures { IfOk result (λ text. text.items ≡ told_with names.now sharing timed why.now chain.now) }
+    ensures { OnOk result (text.new.items ≡ text.old.items ++ with_shares names.now why.now chain.now) }
 {
-    let mut text = Vec::new(alloc);
-    put_head(&mut text, why, timed)?;
     text.push(b'\n')?;
     text.extend_from_slice(chain)?;
     text.push(b'\n')?;
-    put_shares(alloc, &mut text, names, why)?;
-    put_candidates(alloc, &mut text, names, why)?;
-    put_least(&mut text, names, sharing, &why.least)?;
-    Ok(text)
+    put_shares_of_chain(alloc, text, names, why)
 }
 
-/// Returns what is reported of why some rows take as long as they do: their work, their span, and the end of a timed run, if it is one; the chain that holds
-/// them back, step by step, with what each row hands on; its ticks by def and by link; what would move the end forward; and a lower bound for any order on the cowns. All times are
-/// ticks. Where not all of the chain is requested, four or more steps of one def that follow each other are in one line. Each row of the chain has
-/// to have a start, each step its link, and each share by link the place of one; and the chain's ticks have to add up to the span. `AllocError` says
-/// that memory was refused.
-pub fn why_text(
+/// Appends the chain that holds some rows back to a text, step by step, with what each row hands on, and its ticks by def and by link. Where not all of the
+/// chain is requested, four or more steps of one def that follow each other are in one line. Each row of the chain has to have a start, each step its link,
+/// and each share by link the place of one; and the chain's ticks have to add up to the span. `AllocError` says that memory was refused.
+pub fn put_chain(
     alloc: Global,
+    text: &mut Vec<u8>,
     names: &Names,
-    sharing: Sharing,
     all: bool,
-    timed: Option<TimedEnd>,
     why: &Why,
-) -> Result<Vec<u8>, AllocError>
+) -> Result<(), AllocError>
     requires there { All (λ s. s.row < length why.now.profile.starts.items) why.now.profile.chain.steps.items }
     requires whole { length why.now.links.items ≡ length why.now.profile.chain.steps.items }
     requires adds_up { weight_of why.now.profile.chain.steps.items ≡ why.now.profile.span }
     requires keys { All (λ s. s.key < length why.now.links.items) why.now.by_link.items }
-    ensures { IfOk result (λ text. IsWhyText names.now sharing all timed why.now text.items) }
+    ensures { OnOk result (text.new.items ≡ text.old.items ++ chain_told names.now all why.now) }
 {
     let chain = told_chain(alloc, names, all, why)?;
-    told_with(alloc, names, sharing, timed, why, &chain)
-}
-
-/// Appends the line of a greedy plan for the given number of workers to a text: the tick at which it ends, and the one by which it has ended. `AllocError` says
-/// that memory was refused.
-pub fn put_greedy_line(
-    text: &mut Vec<u8>,
-    workers: u64,
-    ends_at: u64,
-    bound: u64,
-) -> Result<(), AllocError>
-    ensures { OnOk result (text.new.items ≡ text.old.items ++ greedy_line workers ends_at bound) }
-{
-    text.extend_from_slice(b"the greedy plan for ")?;
-    put_number(text, workers)?;
-    text.extend_from_slice(b" workers ends at ")?;
-    put_number(text, ends_at)?;
-    text.extend_from_slice(b", its bound is ")?;
-    put_number(text, bound)?;
-    text.extend_from_slice(b"\n")?;
-    Ok(())
+    put_with_shares(alloc, text, names, why, &chain)
 }

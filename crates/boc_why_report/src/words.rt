@@ -1,15 +1,14 @@
-// What links and remedies are called.
+// What links are called.
 
 ghost use Rattle.std.specs.Prelude.{◌≡◌, ◌++◌, IfOk, OnOk, decimal};
 ghost use Rattle.boc_names.specs.Names.{texts_of};
 ghost use Rattle.boc_why_report.specs.ChainTexts.{handed_text, link_text, more_handed, then_text};
-ghost use Rattle.boc_why_report.specs.WhyTexts.{remedy_text};
 
 use boc_names::{Names, text_at};
 use boc_plans::chain::ChainStep;
 use boc_program::short::HeldCown;
 use boc_text::put_number;
-use boc_why::{Link, Remedy};
+use boc_why::Link;
 use std::alloc::{AllocError, Global};
 
 // Appends cowns to others, by their names.
@@ -58,6 +57,7 @@ pub(crate) fn link_text(alloc: Global, names: &Names, link: &Link) -> Result<Vec
             text.extend_from_slice(text_at(&names.def_names, *def as usize))?;
         }
         Link::Hands(cowns) => put_handed(&mut text, &names.cowns, cowns.as_slice())?,
+        Link::Frees => text.extend_from_slice(b"worker")?,
         Link::Ends => text.extend_from_slice(b"end")?,
     }
     Ok(text)
@@ -89,33 +89,7 @@ pub(crate) fn then_text(
             put_next(&mut text, " to row ", next)?;
         }
         (Link::Ends, _) => text.extend_from_slice(b"ends")?,
-        (Link::SpawnBy(_) | Link::Hands(_), None) => {}
-    }
-    Ok(text)
-}
-
-/// Returns what a remedy is called.
-pub(crate) fn remedy_text(
-    alloc: Global,
-    names: &Names,
-    remedy: Remedy,
-) -> Result<Vec<u8>, AllocError>
-    ensures { IfOk result (λ text. text.items ≡ remedy_text names.now remedy) }
-{
-    let mut text = Vec::new(alloc);
-    match remedy {
-        Remedy::HalfCost(def) => {
-            text.extend_from_slice(text_at(&names.def_names, def as usize))?;
-            text.extend_from_slice(b" at 1/2")?;
-        }
-        Remedy::NoOrder(family) => {
-            text.extend_from_slice(b"without ")?;
-            text.extend_from_slice(text_at(&names.family_names, family as usize))?;
-        }
-        Remedy::EarlySpawns(def) => {
-            text.extend_from_slice(b"early spawns by ")?;
-            text.extend_from_slice(text_at(&names.def_names, def as usize))?;
-        }
+        (Link::Frees, _) | (Link::SpawnBy(_) | Link::Hands(_), None) => {}
     }
     Ok(text)
 }

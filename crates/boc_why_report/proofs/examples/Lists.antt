@@ -21,7 +21,7 @@ abbrev by_link : List (List Text)
 by_link = entry_texts (codes "spawn by main") 3 1 ∷ []
 
 -- two lists beside each other, of which the second is shorter
-pub text_of_shares : table_text shares_sides (shares_head ∷ beside by_def by_link)
+pub text_of_shares : table_text shares_sides (shares_head (codes "chain by def") (codes "chain by link") ∷ beside by_def by_link)
     ≡ codes "chain by def  ticks  rows        chain by link    ticks  links\n"
     ++ codes "  serve           6     1          spawn by main      3      1\n  main            3     1\n"
 unfolding digits

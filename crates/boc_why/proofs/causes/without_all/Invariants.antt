@@ -1,7 +1,12 @@
-use Rattle.std.proofs.Common.{◌≡◌, drop}
-use Rattle.boc_why.specs.Causes.{without_all}
+use Rattle.std.proofs.Common.{◌≡◌, ◌≤◌, length, map, take}
+use Rattle.std.specs.Prelude.{vec_capacity}
+use Rattle.boc_why.specs.Causes.{freed_from}
 use Rattle.boc_why.proofs.causes.without_all.Given as goal
 
--- without the cowns that are left, what is left so far is what is left of all
-abbrev pub invariant-loop-cown : goal.invariant-loop-cown
-invariant-loop-cown l = without_all (drop l.cown-index l.cowns) l.left ≡ without_all l.cowns l.fn.rows
+-- the rows so far without the cowns that are marked
+abbrev pub invariant-loop-row : goal.invariant-loop-row
+invariant-loop-row l = record {
+  left : l.left.items ≡ map (freed_from l.is_left_out.items) (take l.row-index l.row-items);
+  whole : length l.left.items ≡ l.row-index;
+  room : length l.row-items ≤ vec_capacity l.left;
+}

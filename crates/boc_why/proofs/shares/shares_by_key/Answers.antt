@@ -22,21 +22,21 @@ loop-key-preserved c =
     let count : c.index-count.result.now ≡ steps_at key c.args.keys.now =
     count_read c.in_ok-totals.ensures key c.index-count.result.now c.loop-key-test.true c.index-count.ensures in
     elim c.if-count-gt0.branch [
-      | then-count-gt0+in_ok-push w ↦ subst (λ (shares : List Share). SharesBelow c.args.keys.now c.args.steps.now (key + 1) shares)
+      | then-count-gt0+in_ok-push w ↦ subst (λ (shares : List Share). SharesBelow c.args.keys.now c.args.weights.now (key + 1) shares)
           (sym (ap (λ v. v.items) w.shares-is ∙ w.in_ok-push.ensures.items))
-          (below_more c.args.keys.now c.args.steps.now key c.loop-key.shares.items
+          (below_more c.args.keys.now c.args.weights.now key c.loop-key.shares.items
           (record { key = key; ticks = w.index.result.now; steps = c.index-count.result.now })
           c.loop-key.invariant (record {
             there = counted_stands key c.args.keys.now (omega (arith, count, w.if-count-gt0.true));
             ticks = ticks_read c.in_ok-totals.ensures key w.index.result.now c.loop-key-test.true w.index.ensures;
             steps = count;
           }) refl)
-      | else-count-gt0 w ↦ subst (λ (shares : List Share). SharesBelow c.args.keys.now c.args.steps.now (key + 1) shares)
-          (sym (ap (λ v. v.items) w.shares-is)) (below_same c.args.keys.now c.args.steps.now key c.loop-key.shares.items c.loop-key.invariant
+      | else-count-gt0 w ↦ subst (λ (shares : List Share). SharesBelow c.args.keys.now c.args.weights.now (key + 1) shares)
+          (sym (ap (λ v. v.items) w.shares-is)) (below_same c.args.keys.now c.args.weights.now key c.loop-key.shares.items c.loop-key.invariant
           (λ stands. absurd (omega (arith, count, w.if-count-gt0.false, stands_counted key c.args.keys.now stands))))
     ]
 
 pub returns : goal.returns
-returns c = below_all c.args.keys.now c.args.steps.now c.loop-key.key c.loop-key.shares.items
+returns c = below_all c.args.keys.now c.args.weights.now c.loop-key.key c.loop-key.shares.items
     (λ key stands. let h : key < c.args.bound = All-contains (λ k. k < c.args.bound) c.args.keys.now key c.requires.below stands in omega arith)
     c.loop-key.invariant

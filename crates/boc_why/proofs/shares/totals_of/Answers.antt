@@ -1,14 +1,8 @@
 use Rattle.std.proofs.Common.{ℕ, List, ◌+◌, ◌<◌, length, get_or, arith}
 use Rattle.std.specs.Prelude.{All}
 use Rattle.std.proofs.lemmas.List.Elements.{All-get_or}
-use Rattle.boc_plans.specs.declared.chain.ChainStep.{ChainStep}
-use Rattle.boc_plans.specs.declared.chain.Via.TheVariants.{Spawn}
 use Rattle.boc_why.proofs.ShareKeys.{read_at, totals_more}
 use Rattle.boc_why.proofs.shares.totals_of.Goals as goal
-
--- what an index reads where there is no step
-abbrev no_step : ChainStep
-no_step = record { row = 0; via = Spawn; weight = 0 }
 
 -- a key is below the bound
 below : (keys : List ℕ) (bound place : ℕ) → All (λ k. k < bound) keys → place < length keys → get_or keys place 0 < bound
@@ -39,6 +33,6 @@ loop-place-preserved c =
     let h : key < c.args.bound = below c.args.keys.now c.args.bound c.loop-place.place c.requires.below (omega arith) in
     let ticks = read_at c.loop-place.ticks.items c.args.bound key c.index_mut.result.now so.totals.many_ticks h c.index_mut.ensures.value in
     let counts = read_at c.loop-place.counts.items c.args.bound key now so.totals.many_counts h c.index_mut-in-loop-place.ensures.value in
-    totals_more c.args.keys.now c.args.steps.now c.args.bound c.loop-place.place c.loop-place.ticks.items c.loop-place.counts.items no_step
-    (c.index_mut.result.now + c.from.result) (now + 1) c.requires.whole c.loop-place-test.true h (omega (arith, c.weight.ensures, c.weight.type_inv)) so
-    (omega (arith, ticks, c.from.ensures, c.weight.ensures)) (omega (arith, counts))
+    totals_more c.args.keys.now c.args.weights.now c.args.bound c.loop-place.place c.loop-place.ticks.items c.loop-place.counts.items
+    (c.index_mut.result.now + c.from.result) (now + 1) c.requires.whole c.loop-place-test.true h (omega (arith, c.type_inv.weights c.loop-place.place)) so
+    (omega (arith, ticks, c.from.ensures)) (omega (arith, counts))

@@ -3,4 +3,4 @@ use Rattle.boc_why.proofs.shares.totals_of.Given as goal
 
 -- the totals of the steps so far
 abbrev pub invariant-loop-place : goal.invariant-loop-place
-invariant-loop-place l = TotalsSoFar l.keys l.steps l.bound l.place l.ticks.items l.counts.items
+invariant-loop-place l = TotalsSoFar l.keys l.weights l.bound l.place l.ticks.items l.counts.items

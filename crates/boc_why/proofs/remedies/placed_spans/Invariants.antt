@@ -1,7 +1,0 @@
-use Rattle.std.proofs.Common.{take}
-use Rattle.boc_why.specs.RemedySteps.{ArePlaced}
-use Rattle.boc_why.proofs.remedies.placed_spans.Given as goal
-
--- the spans so far with their places
-abbrev pub invariant-loop-place : goal.invariant-loop-place
-invariant-loop-place l = ArePlaced (take l.place l.spans) l.placed.items

@@ -1,0 +1,15 @@
+pub mod Families
+pub mod Questions
+pub mod InOrder
+pub mod Remedies
+pub mod Ends
+pub mod Chains
+pub mod LinkSets
+pub mod Tried
+pub mod Told
+pub mod LookedAt
+pub mod Together
+pub mod GreedyWhys
+pub mod Steps
+pub mod Advice
+pub mod WithLinks

@@ -1,3 +1,4 @@
+pub mod Low
 pub mod OneText
 pub mod Texts
 pub mod examples

@@ -10,6 +10,15 @@ use Rattle.boc_names.specs.declared.names.Names.{Names}
 use Rattle.boc_names.specs.Names.{Text, text_at, texts_of}
 use Rattle.boc_cowns.specs.declared.hot.HotCown.{HotCown}
 use Rattle.boc_cowns.specs.declared.hot.HotCowns.{HotCowns}
+use Rattle.boc_cowns_report.specs.declared.judged.JudgedCown.{JudgedCown}
+use Rattle.boc_advice_report.specs.declared.order.OtherOrder.{OtherOrder}
+use Rattle.boc_advice_report.specs.AdviceTexts.{together_table}
+use Rattle.boc_advice_report.specs.OrderTexts as orders
+use Rattle.boc_advice_report.specs.WorkersTexts as workers
+use Rattle.boc_advice_report.specs.WorkersTexts.{workers_text}
+use Rattle.boc_cowns_report.specs.declared.lines.Numbers.{Numbers}
+use Rattle.boc_cowns_report.specs.declared.told.CownsTold.{CownsTold}
+use Rattle.boc_cowns_report.specs.declared.told.JudgedTold.{JudgedTold}
 use Rattle.boc_order.specs.Least.{start_or_0}
 use Rattle.boc_why_report.specs.WhyTexts.{least_text}
 use Rattle.boc_cowns.specs.Hot.{busy_until}
@@ -37,11 +46,20 @@ cowns_head =
 abbrev pub percent_text : ℕ → ℕ → Text
 percent_text ticks span = decimal (percent ticks span) ++ codes "%"
 
+-- the numbers of a cown's line
+abbrev pub number_texts : ℕ → HotCown → List Text
+number_texts span hot =
+    decimal hot.rows ∷ decimal hot.wrote ∷ decimal hot.held ∷ percent_text hot.held span ∷ decimal hot.waited ∷ decimal hot.chain
+    ∷ decimal hot.without ∷ []
+
+-- the same as they are kept
+abbrev pub texts_of_numbers : Numbers → List Text
+texts_of_numbers own =
+    own.rows.items ∷ own.wrote.items ∷ own.held.items ∷ own.of_span.items ∷ own.waited.items ∷ own.chain.items ∷ own.without.items ∷ []
+
 -- the texts of a cown's line
 abbrev pub cown_texts : Names → ℕ → HotCown → List Text
-cown_texts names span hot =
-    name_of names hot ∷ decimal hot.rows ∷ decimal hot.wrote ∷ decimal hot.held ∷ percent_text hot.held span ∷ decimal hot.waited
-    ∷ decimal hot.chain ∷ decimal hot.without ∷ []
+cown_texts names span hot = name_of names hot ∷ number_texts span hot
 
 -- the lines of some cowns
 abbrev pub cown_lines : Names → ℕ → List HotCown → List (List Text)
@@ -55,6 +73,35 @@ told_of (Some most) cowns = take most cowns
 -- a line for each cown that is told
 abbrev pub cowns_table : Names → Option ℕ → HotCowns → Text
 cowns_table names most hot = table_text cowns_sides (cowns_head ∷ cown_lines names hot.span (told_of most hot.cowns.items))
+
+-- ---- the table for a number of workers
+
+-- the sides of the columns, and that of the end of the greedy plan without the cown
+abbrev pub judged_sides : List Side
+judged_sides = cowns_sides ++ Right ∷ []
+
+-- what stands above these columns
+abbrev pub judged_head : List Text
+judged_head = cowns_head ++ codes "end without" ∷ []
+
+-- the texts of a cown's line, with the end of the greedy plan without it
+abbrev pub judged_texts : Names → ℕ → JudgedCown → List Text
+judged_texts names span own = cown_texts names span own.hot ++ decimal own.end ∷ []
+
+-- the lines of some cowns
+abbrev pub judged_lines : Names → ℕ → List JudgedCown → List (List Text)
+judged_lines names span cowns = map (judged_texts names span) cowns
+
+-- those that are told: all of them, or the first so many
+abbrev pub judged_of : Option ℕ → List JudgedCown → List JudgedCown
+judged_of None cowns = cowns
+judged_of (Some most) cowns = take most cowns
+
+-- a line for each cown that is told
+abbrev pub judged_table : Names → Option ℕ → ℕ → List JudgedCown → Text
+judged_table names most span cowns = table_text judged_sides (judged_head ∷ judged_lines names span (judged_of most cowns))
+
+-- ---- how many more there are
 
 -- how many more cowns there are, where there are several
 abbrev pub many_text : ℕ → Text
@@ -163,8 +210,41 @@ shared_text names SharedReads hot = []
 
 -- ---- all that is told
 
--- the table, how many more cowns there are than it tells, the span, what holds the rows back, a lower bound for any order, and what shared
--- reads would bring
-pub record IsCownsText (names : Names) (sharing : Sharing) (most : Option ℕ) (hot : HotCowns) (text : Text) : Type 0 where
-  pub is : text ≡ cowns_table names most hot ++ more_text (length hot.cowns.items - length (told_of most hot.cowns.items)) ++ span_text hot
-      ++ verdict_text names hot hot.cowns.items ++ codes "\n" ++ least_text names sharing hot.least ++ shared_text names sharing hot
+-- a line for each cown that is told, and how many more there are
+abbrev pub plain_told : Names → Option ℕ → HotCowns → Text
+plain_told names most hot = cowns_table names most hot ++ more_text (length hot.cowns.items - length (told_of most hot.cowns.items))
+
+-- the same, with the ends of the greedy plans without the cowns
+abbrev pub judged_told : Names → Option ℕ → HotCowns → List JudgedCown → Text
+judged_told names most hot cowns = judged_table names most hot.span cowns ++ more_text (length hot.cowns.items - length (judged_of most cowns))
+
+-- the same of either: with these ends where a number of workers is given
+abbrev pub lines_told : Names → Option ℕ → HotCowns → Option JudgedTold → Text
+lines_told names most hot None = plain_told names most hot
+lines_told names most hot (Some judged) = judged_told names most hot judged.cowns.now
+
+-- what the rows take by some workers, and what holds them back then, where a number of these is given
+abbrev pub workers_told : Option JudgedTold → Text
+workers_told None = []
+workers_told (Some judged) = workers_text judged.workers ++ workers.verdict_text judged.workers
+
+-- the line of a better order, where one was found
+abbrev pub order_told : Names → Option OtherOrder → Text
+order_told names None = []
+order_told names (Some order) = orders.order_text names order
+
+-- the table, how many more cowns there are than it tells, several cowns at once, the span, and what holds the rows back
+abbrev pub load_part : Names → Option ℕ → CownsTold → Text
+load_part names most told =
+    lines_told names most told.hot.now told.judged ++ together_table names told.together.now ++ span_text told.hot.now
+    ++ verdict_text names told.hot.now told.hot.now.cowns.items ++ codes "\n"
+
+-- a lower bound for any order, a better order, where one was found, what some workers take, where a number of these is given, and what shared reads would
+-- bring
+abbrev pub bounds_part : Names → Sharing → CownsTold → Text
+bounds_part names sharing told =
+    least_text names sharing told.hot.now.least ++ order_told names told.order ++ workers_told told.judged ++ shared_text names sharing told.hot.now
+
+-- all that is told of the cowns that hold some rows back
+pub record IsCownsText (names : Names) (sharing : Sharing) (most : Option ℕ) (told : CownsTold) (text : Text) : Type 0 where
+  pub is : text ≡ load_part names most told ++ bounds_part names sharing told

@@ -7,6 +7,7 @@ use Rattle.clap.specs.Words.{App, Rule, Shape, Text, new_rule}
 use Rattle.clap.specs.declared.builder.action.ArgAction.TheVariants as actions
 use Rattle.clap.specs.declared.builder.value_parser.ValueParser.{ValueParser}
 use Rattle.clap.specs.declared.builder.value_parser.ValueParser.TheVariants as parsers
+use Rattle.boc_words.specs.declared.arguments.TheConstants.{MOST_CHANGES}
 use Rattle.boc_program.specs.declared.limits.TheConstants.{MOST_COWNS, MOST_DEPTH, MOST_ROWS, MOST_RUNNERS, MOST_RUNS, MOST_WORKERS}
 use Rattle.boc_words.specs.declared.arguments.Numbers.{Numbers}
 use Rattle.boc_words.specs.declared.arguments.Numbers.TheVariants.{UpTo, Every}
@@ -46,6 +47,10 @@ seed_option = record { id = codes "seed"; letter = None; numbers = Every }
 abbrev pub top_option : NumberOption
 top_option = record { id = codes "top"; letter = None; numbers = UpTo MOST_COWNS }
 
+-- `--then K`, by which so many changes are made, one on top of the other
+abbrev pub then_option : NumberOption
+then_option = record { id = codes "then"; letter = None; numbers = UpTo MOST_CHANGES }
+
 -- `--depth D`, of priorities with so many points less one at which the worker that would move falls to the last
 abbrev pub depth_option : NumberOption
 depth_option = record { id = codes "depth"; letter = None; numbers = UpTo MOST_DEPTH }
@@ -60,7 +65,7 @@ best_option = record { id = codes "best"; letter = None; numbers = UpTo MOST_ROW
 
 -- every option with a number
 abbrev pub number_options : List NumberOption
-number_options = runners_option ∷ seed_option ∷ workers_option ∷ top_option ∷ depth_option ∷ runs_option ∷ best_option ∷ []
+number_options = runners_option ∷ seed_option ∷ workers_option ∷ top_option ∷ depth_option ∷ runs_option ∷ best_option ∷ then_option ∷ []
 
 -- `--shared-reads`
 abbrev pub sharing_flag : Argument
@@ -144,12 +149,12 @@ signature_of kinds.Sweep =
 signature_of kinds.Why = (
   codes "why",
   number runners_option ∷ number seed_option ∷ number depth_option ∷ timed_flag ∷ number workers_option ∷ sharing_flag ∷ repeated record_file
-      ∷ repeated names_file ∷ all_flag ∷ quiet_flag ∷ input_operand ∷ [],
+      ∷ repeated names_file ∷ all_flag ∷ number then_option ∷ quiet_flag ∷ input_operand ∷ [],
 )
 signature_of kinds.Cowns = (
   codes "cowns",
-  number runners_option ∷ number seed_option ∷ number depth_option ∷ timed_flag ∷ sharing_flag ∷ repeated record_file ∷ repeated names_file
-      ∷ number top_option ∷ quiet_flag ∷ input_operand ∷ [],
+  number runners_option ∷ number seed_option ∷ number depth_option ∷ timed_flag ∷ number workers_option ∷ sharing_flag ∷ repeated record_file
+      ∷ repeated names_file ∷ number top_option ∷ quiet_flag ∷ input_operand ∷ [],
 )
 signature_of kinds.Outcomes =
     (codes "outcomes", number runs_option ∷ number seed_option ∷ number runners_option ∷ number depth_option ∷ input_operand ∷ [])

@@ -26,7 +26,7 @@ use Rattle.boc_words.specs.declared.commands.Kind.{Kind}
 use Rattle.boc_words.specs.declared.commands.Kind.TheVariants as called
 use Rattle.boc_words.specs.Commands.{Argument, IsNumberOf, NumberOption, commands_of_boc, number_options, shape_of_command, signature_of}
 use Rattle.boc_words.specs.Commands.{best_option, depth_option, files_of, names_file, program_file, record_file, runners_option, runs_option, seed_option}
-use Rattle.boc_words.specs.Commands.{top_option, workers_option}
+use Rattle.boc_words.specs.Commands.{then_option, top_option, workers_option}
 use Rattle.boc_words.specs.EditWords.{IsEditWord, IsWritable, edit_word, is_edit}
 use Rattle.boc_words.specs.declared.asked.AskedCown.{AskedCown}
 use Rattle.boc_words.specs.declared.asked.AskedCown.TheVariants as cowns
@@ -235,12 +235,14 @@ ArePlans rows plans = AreWorkers rows plans.workers × IsUnplanned rows plans.un
 -- this was asked of `why`
 abbrev pub AsksWhy : List Row → AskedWhy → Type 0
 AsksWhy rows asked =
-    IsSchedule rows asked.schedule × AreWorkers rows asked.workers × AreShared rows asked.sharing × IsAll rows asked.all × IsQuiet rows asked.quiet
+    IsSchedule rows asked.schedule × AreWorkers rows asked.workers × AreShared rows asked.sharing × IsAll rows asked.all
+    × GivesNumber then_option rows asked.then × IsQuiet rows asked.quiet
 
 -- and this of `cowns`
 abbrev pub AsksCowns : List Row → AskedCowns → Type 0
 AsksCowns rows asked =
-    IsSchedule rows asked.schedule × AreShared rows asked.sharing × GivesNumber top_option rows asked.top × IsQuiet rows asked.quiet
+    IsSchedule rows asked.schedule × AreWorkers rows asked.workers × AreShared rows asked.sharing × GivesNumber top_option rows asked.top
+    × IsQuiet rows asked.quiet
 
 -- `--short` was given, and the numbers before and after are told, or it was not
 abbrev pub IsShort : List Row → Bool → Type 0

@@ -105,7 +105,7 @@ pub(crate) const DEPTH: NumberOption = NumberOption {
 /// Whether ticks are time for the workers.
 pub(crate) const TIMED: FlagOption = FlagOption {
     id: "timed",
-    help: "Simulate N workers with ticks as time; 16 without -w",
+    help: "Simulate workers by ticks: -w, else P up to 16, else 16",
 };
 
 /// How many runs are drawn.
@@ -156,10 +156,22 @@ pub(crate) const SWEEP_WORKERS: NumberOption = NumberOption {
     ..WORKERS
 };
 
-/// For how many workers `why` prints the end of a greedy plan.
+/// For how many workers `why` and `cowns` judge.
 pub(crate) const WHY_WORKERS: NumberOption = NumberOption {
-    help: "Also print the greedy plan's end for P workers, 1 to 64",
+    help: "Judge by the greedy plan for P workers, 1 to 64",
     ..WORKERS
+};
+
+/// This many changes are made at most, one on top of the other.
+pub(crate) const MOST_CHANGES: u32 = 5;
+
+/// How many changes `why` makes, one on top of the other.
+pub(crate) const THEN: NumberOption = NumberOption {
+    id: "then",
+    letter: None,
+    value_name: "K",
+    numbers: Numbers::UpTo(MOST_CHANGES),
+    help: "Make the best change, the best on top, .. K times, 1 to 5",
 };
 
 /// Whether a sweep goes over the cowns.
@@ -278,6 +290,9 @@ const _: () = prove!(MOST_DEPTH == 16);
 
 // The limit that the help of `--best` names.
 const _: () = prove!(MOST_ROWS == 65_535);
+
+// The limit that the help of `--then` names.
+const _: () = prove!(MOST_CHANGES == 5);
 
 // The limit that the help of `--runs` names.
 const _: () = prove!(MOST_RUNS == 1_000_000);

@@ -38,12 +38,14 @@ pub struct AskedPlans {
 pub struct AskedWhy {
     /// How the input is run, if it is a program.
     pub schedule: Schedule,
-    /// For how many workers it reports the end of the greedy plan, if for any.
+    /// For how many workers it judges, if for any.
     pub workers: Option<Workers>,
     /// How rows share cowns in plans.
     pub sharing: Sharing,
     /// Whether each row of the chain has a line of its own.
     pub all: bool,
+    /// How many changes are reported at most, one on top of the other, if that is requested.
+    pub then: Option<u32>,
     /// Whether notes are left out.
     pub quiet: bool,
 }
@@ -53,6 +55,8 @@ pub struct AskedWhy {
 pub struct AskedCowns {
     /// How the input is run, if it is a program.
     pub schedule: Schedule,
+    /// For how many workers it judges, if for any.
+    pub workers: Option<Workers>,
     /// How rows share cowns in plans.
     pub sharing: Sharing,
     /// How many cowns are listed at most, if there is a limit.

@@ -10,7 +10,8 @@ use crate::arguments::Argument::{Flag, Number, Repeated, Word, Words};
 use crate::arguments::{
     ALL, Argument, BEST, CURVE_WORKERS, DEPTH, DRAWN_DEPTH, DRAWN_WORKERS, EDITS, FIRST_SEED,
     INPUT, NAMES, NO_PLAN, PROGRAM, QUIET, RECORD, RUNNERS, RUNNERS_ALONE, RUNS, SEED, SHARING,
-    SHORT, SWEEP_COWNS, SWEEP_SPAWNS, SWEEP_WORKERS, TIMED, TOP, WHY_WORKERS, WITHOUT, WORKERS,
+    SHORT, SWEEP_COWNS, SWEEP_SPAWNS, SWEEP_WORKERS, THEN, TIMED, TOP, WHY_WORKERS, WITHOUT,
+    WORKERS,
 };
 use crate::version::VERSION;
 use boc_program::limits::{
@@ -185,8 +186,10 @@ Output:
       Number of rows (main, and each behaviour of the run), their ticks
       together, and when the last row ends if each has a worker, with the spawns
       and the orders on the cowns of this run. Other runs may differ. With
-      --timed, `end E on N workers`: when the run itself was over. All that
-      follows is about the span. Workers are short if E is greater.
+      --timed, `end E on N workers`: when the run itself was over. If E is above
+      the span, workers are short; or, with --shared-reads, the run waited for
+      reads that the span shares. All that follows is about the span, except for
+      what P workers take.
   chain
       The critical path, from main to a row that ends last:
         tick       When the row starts
@@ -204,11 +207,23 @@ Output:
       The span, divided among the defs, and among the kinds of link: a cown that
       is handed on (`a and b` if both are at once), `spawn by DEF`, and `end`,
       the last row. `rows` and `links` count them.
+  P workers   end E   least L   work/P Q   busy B%
+      With --p. E is the end of the greedy plan for P workers, which leaves no
+      worker idle while a row can start. Q is the work divided by P, rounded up.
+      L is the greater of Q and the span: no plan for P workers ends before it.
+      The workers are busy B % of the time, rounded down.
+  P workers by def, by link
+      With --p, if the greedy plan has another chain: its end, divided among
+      defs and links. At a link `worker` the next row was ready before, and
+      starts as a worker becomes free.
   candidates
       The span with one change, best first. `less` is the gain; it may be 0.
-      Tried are the cowns of the chain, the 20 defs with most of its ticks, and
-      the 20 whose spawns have most of them. If several chains are as long,
-      another def may gain more: try it with boc whatif.
+      Tried are the cowns of the chain (an array as a whole), alone and as one
+      link hands them on, the 20 defs with most of its ticks, and the 20 whose
+      spawns have most of them. If several chains are as long, another def may
+      gain more: try it with boc whatif. With --p the chain of the greedy plan
+      is tried too. The list has the end of the greedy plan then, and is in its
+      order. A change may make that later: then `less` is below 0.
         DEF at 1/2           Each behaviour of DEF takes half its ticks, rounded
                              up, or as many as its spawns need. It spawns as
                              much sooner, each child at least a tick after the
@@ -216,15 +231,23 @@ Output:
         without COWN         COWN, or the whole array COWN[*], imposes no order.
                              All other orders stay, so splitting it may gain
                              more or less.
+        without A and B      A and B impose no order. Not listed if a part of
+                             the set that was tried gains 75 % as much; with
+                             --p, 75 % of both numbers.
         early spawns by DEF  In each behaviour of DEF the first spawn is at its
-                             tick 1, the second at its tick 2, and so on. A
-                             program's first `when` is at tick 2, so it may gain
-                             up to a tick a row less.
+                             tick 1, the second at its tick 2, and so on. In a
+                             program the first `when` is at tick 2, or later in
+                             an `if` or `repeat`, so it may gain less.
+  several cowns at once
+      If the chain hands a cown on: the span without the order of the best two,
+      three .. cowns or arrays that were found and are no candidates, and
+      without that of every cown. With --p also the end of the greedy plan; the
+      sets are chosen by the span.
   lower bound for any order: N (REASON)
       With the ticks and spawns of this run (which row spawns which, when and in
-      which order), no order of the rows on the cowns ends before N. The best
-      order may end later. Candidates change ticks, spawns or cowns, so they may
-      end sooner. The reasons:
+      which order), no order of the rows on the cowns ends before N, even with a
+      worker for each row. The best order may end later. Candidates change
+      ticks, spawns or cowns, so they may end sooner. The reasons:
         COWN is held for H ticks, from tick T on
             Its rows take H ticks together, one at a time, and none can start
             before tick T. N is T + H.
@@ -232,12 +255,27 @@ Output:
             The same of the rows that wrote it, with --shared-reads
         their spawns take that long
             A row, with the spawns that lead to it, ends at N without any cown
-  the greedy plan for P workers ends at E, its bound is B
-      With --p. No worker of this plan is idle while a row can start. E is at
-      most B, which is work / P, rounded down, plus the span.
+  a better order ends at E: start whatever can start; it differs first at ..
+      These rows, with these ticks and a worker for each, end at E if each
+      starts as soon as it is spawned and its cowns are free. Then rows come in
+      another order on some cowns; `at ..` is the first place. In another order
+      values may differ, and then ticks.
+  last line
+      With --p, what limits the plan for P workers; the first that holds:
+        workers  Q is at least 90 % of the end: do less; or have more workers,
+                 if the span is less
+        chain    The span is at least 90 % of it: more workers gain little
+        plan     Neither is: another plan of these rows saves at most E - L
+With --then K it prints instead `steps`: the change that leaves the soonest end,
+which with --p is that of the greedy plan, then the best on top of it, and so
+on, up to K. It takes no set of cowns of which a part gains 75 % as much. `less`
+is the gain over the line above. It stops sooner if nothing that is tried gains
+anything. --all changes nothing then.
 
-With --p, if one thread runs the program, a note on standard error says if the
-timed run on P workers, at most 16, has another span: look at it with --timed.
+With --p, and without -w above 1, --seed, --timed and --record, a note on
+standard error says if the timed run on P workers, at most 16, has another span,
+unless --quiet is given. When that run ends is another number: add --timed to
+see it.
 
 Four or more rows of one def that follow each other on the chain are folded into
 one line, unless --all is given. The other lists stop after 20 lines.
@@ -258,6 +296,7 @@ which rows that only read a cown share it. The options -w, --seed, --depth and
 
 Examples:
   boc why program.boc
+  boc why -p 4 --then 3 program.boc
   boc why -w 4 --seed 3 program.boc
   boc run program.boc > run.record
   boc why --record run.record program.boc
@@ -270,7 +309,7 @@ const COWNS_LINES: &str =
     "Input that begins with `boc` is the record of a run. Anything else is a program,
 which is run first. With --record the input is a program, and FILE has its run.
 
-Output, one line per cown, the longest held first:
+Output, one line per cown, the longest held first (with --p see `end without`):
   rows      Rows that have the cown
   wrote     Rows that wrote it
   held      Ticks during which only one row has it. With --shared-reads, rows
@@ -286,23 +325,32 @@ Output, one line per cown, the longest held first:
             Splitting it may gain more or less. If it is not below the span,
             leaving out only this cown gains nothing: it orders no rows of the
             chain, or others order the same rows, or another chain is as long.
-            Then try two at once:
-              boc run P | boc whatif --program P --short --without A --without B
+  end without
+            With --p: the end of the greedy plan for P workers if the cown
+            imposed no order. The lines are in its order then.
 
-Below the table are the span, the span if no cown imposed any order, how long
+If the chain hands a cown on, a table of several cowns at once follows. First
+come cowns or arrays that one link hands on together, then the best two, three
+.. that were found, then every cown. Each line has the span if they imposed no
+order, with --p the end too.
+
+Below these are the span, the span if no cown imposed any order, how long
 the busiest cown is held, and a verdict:
   spawns  The spawns alone need at least 75 % of the span. With the ticks and
           spawns of this run, another order on the cowns saves at most a
           quarter. Spawn earlier, or do less. Once rows are spawned earlier, a
           cown that is held for long may be what limits the run.
   load    Otherwise, one cown is held for at least 75 % of the span: split it,
-          or shorten what holds it. Or one is held for less, but so late, in
-          every order with the ticks and spawns of this run, that most of what
-          the cowns cost remains. The line then gives the tick before which no
-          row that wrote it starts.
+          or shorten what holds it. If another cown orders the same rows,
+          splitting one gains nothing: see several cowns at once. Or one is held
+          for less, but so late, in every order with the ticks and spawns of
+          this run, that most of what the cowns cost remains. The line then
+          gives the tick before which no row that has it starts; with
+          --shared-reads, no row that wrote it.
   order   Neither: the lower bound shows no such cown. Another order of the
           behaviours may end sooner, but there need not be one.
-Then comes a lower bound for any order, as in boc why, and the span with
+Then come a lower bound for any order, a better order if one was found, and with
+--p what P workers take and what limits them, as in boc why; and the span with
 --shared-reads if that is smaller.
 
 Names are those of the program or of the file for --names, which boc help why
@@ -311,7 +359,7 @@ describes. Without either, cowns have their numbers. -w, --seed, --depth and
 with --timed, the numbers change only if spawns or cowns come in another order.
 
 Examples:
-  boc cowns --top 3 program.boc
+  boc cowns --top 3 -p 4 program.boc
   boc run -w 4 program.boc | boc cowns
 
 See also: boc help why, boc help whatif. Seeds and depth: boc help run. Exit
@@ -621,6 +669,7 @@ const WHY: Entry = Entry {
         Repeated(RECORD),
         Repeated(NAMES),
         Flag(ALL),
+        Number(THEN),
         Flag(QUIET),
         Word(INPUT),
     ],
@@ -631,10 +680,11 @@ const COWNS: Entry = Entry {
     name: "cowns",
     about: about!("Show how long cowns are held and whether they limit a run"),
     takes: &[
-        Number(RUNNERS_ALONE),
+        Number(RUNNERS),
         Number(SEED),
         Number(DEPTH),
         Flag(TIMED),
+        Number(WHY_WORKERS),
         Flag(SHARING),
         Repeated(RECORD),
         Repeated(NAMES),

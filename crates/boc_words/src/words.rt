@@ -1,7 +1,7 @@
 // The words of the command line.
 
 ghost use Rattle.boc_words.specs.Commands.{IsNumberOf, best_option, depth_option, names_file, program_file, record_file, runners_option, top_option};
-ghost use Rattle.boc_words.specs.Commands.{workers_option};
+ghost use Rattle.boc_words.specs.Commands.{then_option, workers_option};
 ghost use Rattle.boc_words.specs.EditWords.{is_edit};
 ghost use Rattle.boc_words.specs.Tables.{option_of};
 ghost use Rattle.boc_words.specs.Words.{AreCowns, AreEdits, AreNamesFrom, AreRunners, AreShared, AreTaken, AreUpTo, AreWorkers, Asks};
@@ -19,8 +19,8 @@ ghost use Rattle.std.specs.Prelude.{◌≡◌, ◌∷◌, ◌<◌, ◌^◌, ◌�
 
 use crate::arguments::{
     ALL, BEST, DEPTH, EDITS, INPUT, NAMES, NO_PLAN, NumberOption, Numbers, PROGRAM, QUIET, RECORD,
-    RUNNERS, RUNS, RepeatedOption, SEED, SHARING, SHORT, SWEEP_COWNS, SWEEP_SPAWNS, TIMED, TOP,
-    WITHOUT, WORKERS,
+    RUNNERS, RUNS, RepeatedOption, SEED, SHARING, SHORT, SWEEP_COWNS, SWEEP_SPAWNS, THEN, TIMED,
+    TOP, WITHOUT, WORKERS,
 };
 use crate::asked::{
     AskedCown, AskedCowns, AskedDraws, AskedEdit, AskedPlans, AskedWhy, NamesFrom, RunFile,
@@ -240,6 +240,7 @@ fn asked(alloc: Global, kind: Kind, matches: &ArgMatches) -> Result<Command, Wor
                 workers: workers_asked(alloc, matches)?,
                 sharing: sharing_asked(matches),
                 all: is_set(texts_at(matches, ALL.id)),
+                then: small_number_asked(alloc, matches, &THEN)?,
                 quiet: is_set(texts_at(matches, QUIET.id)),
             },
             file: run_file_asked(alloc, matches)?,
@@ -247,6 +248,7 @@ fn asked(alloc: Global, kind: Kind, matches: &ArgMatches) -> Result<Command, Wor
         Kind::Cowns => Ok(Command::Cowns {
             asked: AskedCowns {
                 schedule: schedule_asked(alloc, matches)?,
+                workers: workers_asked(alloc, matches)?,
                 sharing: sharing_asked(matches),
                 top: small_number_asked(alloc, matches, &TOP)?,
                 quiet: is_set(texts_at(matches, QUIET.id)),

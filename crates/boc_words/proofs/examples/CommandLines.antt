@@ -3,12 +3,12 @@ use Rattle.std.proofs.Common.{map, ◌≡◌, List, [], ◌∷◌, Some, None, t
 use Rattle.clap.proofs.OnLiterals.{clap_on_literals}
 use Rattle.clap.specs.Words.{Text, fault_of, is_simple, is_simple_and_free, subcommand_of}
 use Rattle.clap.specs.declared.error.kind.ErrorKind.TheVariants as kinds
-use Rattle.boc_words.specs.Commands.{files_of}
+use Rattle.boc_words.specs.Commands.{files_of, then_option, top_option}
 use Rattle.boc_words.specs.EditWords.{edit_word}
 use Rattle.boc_words.specs.declared.asked.AskedCown.TheVariants.{Number}
 use Rattle.boc_words.specs.declared.asked.AskedEdit.TheVariants.{Row}
 use Rattle.boc_words.specs.Words.{AreAtOdds, AreCowns, AreDraws, AreRunners, AreShared, AreTaken, AreUpTo, AreTooMany, AreWorkers, IsOver, IsSchedule}
-use Rattle.boc_words.specs.Words.{LacksSeed, Names}
+use Rattle.boc_words.specs.Words.{GivesNumber, LacksSeed, Names}
 use Rattle.boc_words.specs.Words.{command_line, values_at}
 use Rattle.boc_words.specs.declared.commands.Kind.TheVariants as called
 use Rattle.boc_words.specs.declared.schedule.Schedule.TheVariants.{Drawn, Timed}
@@ -127,6 +127,48 @@ files_taken = refl
 pub files_named : Names (subcommand_of command_line files_words) called.Why (λ rows. AreTooMany (files_of called.Why) rows)
 unfolding clap_on_literals
 files_named = (_, refl, lit≤ tt)
+
+abbrev then_words : List Text
+then_words = codes "boc" ∷ codes "why" ∷ codes "--p=4" ∷ codes "--then" ∷ codes "3" ∷ []
+
+pub then_taken : AreTaken then_words
+unfolding clap_on_literals
+then_taken = refl
+
+pub then_named : Names (subcommand_of command_line then_words) called.Why (λ rows.
+    GivesNumber then_option rows (Some 3) × AreWorkers rows (Some 4))
+unfolding clap_on_literals digits
+then_named = (
+  _,
+  refl,
+  (
+    record { text = codes "3"; alone = refl; says = record { numeral = (lit≤ tt, (lit≤ tt, tt)); value = refl } },
+    record { text = codes "4"; alone = refl; says = record { numeral = (lit≤ tt, (lit≤ tt, tt)); value = refl } },
+  ),
+)
+
+abbrev why_words : List Text
+why_words = codes "boc" ∷ codes "why" ∷ []
+
+pub why_named : Names (subcommand_of command_line why_words) called.Why (λ rows. GivesNumber then_option rows None × AreWorkers rows None)
+unfolding clap_on_literals
+why_named = (_, refl, (refl, refl))
+
+abbrev held_words : List Text
+held_words = codes "boc" ∷ codes "cowns" ∷ codes "-p" ∷ codes "4" ∷ []
+
+pub held_taken : AreTaken held_words
+unfolding clap_on_literals
+held_taken = refl
+
+pub held_named : Names (subcommand_of command_line held_words) called.Cowns (λ rows.
+    AreWorkers rows (Some 4) × GivesNumber top_option rows None)
+unfolding clap_on_literals digits
+held_named = (
+  _,
+  refl,
+  (record { text = codes "4"; alone = refl; says = record { numeral = (lit≤ tt, (lit≤ tt, tt)); value = refl } }, refl),
+)
 
 abbrev curve_words : List Text
 curve_words = codes "boc" ∷ codes "curve" ∷ []
@@ -272,6 +314,22 @@ too_deep = refl
 pub no_runs : fault_of command_line (codes "boc" ∷ codes "outcomes" ∷ codes "--runs" ∷ codes "0" ∷ []) ≡ kinds.ValueValidation ∷ []
 unfolding clap_on_literals
 no_runs = refl
+
+pub too_many_changes : fault_of command_line (codes "boc" ∷ codes "why" ∷ codes "--then" ∷ codes "6" ∷ []) ≡ kinds.ValueValidation ∷ []
+unfolding clap_on_literals
+too_many_changes = refl
+
+pub no_changes : fault_of command_line (codes "boc" ∷ codes "why" ∷ codes "--then" ∷ codes "0" ∷ []) ≡ kinds.ValueValidation ∷ []
+unfolding clap_on_literals
+no_changes = refl
+
+pub changes_of_cowns : fault_of command_line (codes "boc" ∷ codes "cowns" ∷ codes "--then=3" ∷ []) ≡ kinds.UnknownArgument ∷ []
+unfolding clap_on_literals
+changes_of_cowns = refl
+
+pub too_many_workers_of_cowns : fault_of command_line (codes "boc" ∷ codes "cowns" ∷ codes "-p" ∷ codes "65" ∷ []) ≡ kinds.ValueValidation ∷ []
+unfolding clap_on_literals
+too_many_workers_of_cowns = refl
 
 pub word_too_many : fault_of command_line (codes "boc" ∷ codes "values" ∷ codes "program" ∷ codes "more" ∷ []) ≡ kinds.UnknownArgument ∷ []
 unfolding clap_on_literals

@@ -8,8 +8,8 @@ use Rattle.boc_plans.specs.Seen.{seen}
 use Rattle.boc_plans.specs.declared.sharing.Sharing.{Sharing}
 use Rattle.boc_plans.specs.declared.sweep.Sweep.{Sweep}
 use Rattle.boc_record.specs.RecordTexts.{IsTextOf}
-use Rattle.boc_why.specs.RemedySteps.{AreRanked}
-use Rattle.boc_why.specs.declared.remedies.Placed.{Placed}
+use Rattle.boc_why.specs.Ranking.{AreRanked}
+use Rattle.boc_why.specs.declared.ranking.Placed.{Placed}
 use Rattle.boc_commands.specs.Answers.{AreSwept, first_of}
 use Rattle.boc_commands.specs.BestAnswers.{IsBestAnswer, IsUnswept, best_line, best_lines}
 

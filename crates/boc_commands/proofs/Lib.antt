@@ -18,6 +18,8 @@ pub mod NoProgram
 pub mod OneNaming
 pub mod OneTimes
 pub mod OneNote
+pub mod OneOrder
+pub mod CownsParts
 pub mod OneTold
 pub mod OneChange
 pub mod BesideFiles

@@ -31,8 +31,8 @@ use Rattle.boc_commands.specs.WhatIfAnswers.{IsWhatIfAnswer}
 use Rattle.boc_commands.proofs.SameNames.{same_cowns, same_edits}
 use Rattle.boc_runs.specs.Run.{config_of}
 use Rattle.boc_why.specs.Causes.{without_all}
-use Rattle.boc_why.specs.RemedySteps.{AreRanked}
-use Rattle.boc_why.proofs.OneRemedy.{one_ranked}
+use Rattle.boc_why.specs.Ranking.{AreRanked}
+use Rattle.boc_why.proofs.OneRanking.{one_ranked}
 use Rattle.boc_ends_report.specs.ValueTexts.{values_text}
 use Rattle.boc_commands.specs.CheckTexts.{check_text}
 use Rattle.boc_report.specs.Texts.{report_text, greedy_text, curve_text, sweep_lines}

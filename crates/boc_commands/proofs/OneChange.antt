@@ -26,7 +26,7 @@ use Rattle.boc_names.specs.declared.names.Names.{Names}
 use Rattle.boc_names.specs.Names.{CallTheSame, Text, text_at, texts_of}
 use Rattle.boc_why.specs.Causes.{without_all}
 use Rattle.boc_why.specs.WhySteps.{AreSharesByDef}
-use Rattle.boc_why.proofs.OneRemedy.{one_edited}
+use Rattle.boc_why.proofs.OneCause.{one_edited}
 use Rattle.boc_why.proofs.OneWhy.{one_list_by_def}
 use Rattle.boc_why_report.specs.declared.short.Outcome.{Outcome}
 use Rattle.boc_why_report.specs.ShortTexts.{ComeToTheSame}

@@ -1,5 +1,5 @@
 -- Of one run there is one answer of `why` and one of `cowns`, with one text of notes.
-use Rattle.std.proofs.Common.{◌≡◌, ◌∙◌, ℕ, Bool, true, false, List, ◌++◌, length, Option, Some, None, ap, subst, sym}
+use Rattle.std.proofs.Common.{◌≡◌, ◌∙◌, ℕ, Bool, true, false, List, ◌++◌, length, Option, Some, None, subst, sym}
 use Rattle.std.specs.Prelude.{option_map}
 use Rattle.boc_runs.specs.declared.rows.Row.{Row}
 use Rattle.boc_runs.specs.Records.{IsRecord, Recorded}
@@ -7,33 +7,42 @@ use Rattle.boc_runs.specs.Rows.{IsRows}
 use Rattle.boc_rules.proofs.Finished.{is_rows}
 use Rattle.boc_rules.proofs.Next.{well_log}
 use Rattle.boc_plans.specs.declared.sharing.Sharing.{Sharing}
-use Rattle.boc_plans.specs.Plans.{IsEnd}
 use Rattle.boc_plans.specs.Seen.{seen}
 use Rattle.boc_plans.proofs.Seeing.{rows_seen}
-use Rattle.boc_order.proofs.Alone.{one_bound, one_end}
-use Rattle.boc_greedy.proofs.Alone.{one_greedy_plan}
+use Rattle.boc_greedy.proofs.Curving.{one_greedy_cown_sweep, one_greedy_end}
 use Rattle.boc_names.specs.declared.names.Names.{Names}
 use Rattle.boc_names.specs.Names.{CallTheSame, texts_of}
-use Rattle.boc_why.specs.Why.{IsWhy, SayTheSame}
-use Rattle.boc_why.proofs.OneWhy.{one_why}
 use Rattle.boc_why_report.specs.declared.told.TimedEnd.{TimedEnd}
-use Rattle.boc_why_report.specs.ChainTexts.{told_chain}
-use Rattle.boc_why_report.specs.WhyTexts.{greedy_line, told_with}
-use Rattle.boc_why_report.proofs.OneText.{one_text as one_why_text}
-use Rattle.boc_cowns.specs.Hot.{IsHotCowns}
+use Rattle.boc_remedies.specs.declared.greedy_why.GreedyWhy.{GreedyWhy}
+use Rattle.boc_remedies.specs.GreedyWhys.{SayTheSameIfAsked}
+use Rattle.boc_remedies.specs.Questions.{Asked}
+use Rattle.boc_remedies.specs.Together.{AreCownsTogether}
+use Rattle.boc_remedies.proofs.OneAdvised.{one_advised}
+use Rattle.boc_remedies.proofs.OneEnds.{one_ends as one_ends_now}
+use Rattle.boc_remedies.proofs.OneSteps.{one_steps}
+use Rattle.boc_remedies.proofs.OneTogether.{one_table}
+use Rattle.boc_advice_report.specs.Same.{AreSameGreedy}
+use Rattle.boc_advice_report.proofs.OneText.{one_steps_text, one_why_text}
+use Rattle.boc_cowns.specs.declared.hot.HotCowns.{HotCowns}
 use Rattle.boc_cowns.proofs.One.{cowns_same, least_same, shared_same, span_same}
+use Rattle.boc_cowns_report.specs.declared.told.CownsTold.{CownsTold}
+use Rattle.boc_cowns_report.specs.declared.told.JudgedTold.{JudgedTold}
+use Rattle.boc_cowns_report.specs.Judged.{judged_cowns}
+use Rattle.boc_cowns_report.specs.Same.{JudgeTheSame, TellTheSame}
 use Rattle.boc_cowns_report.proofs.OneText.{one_text as one_cowns_text}
 use Rattle.boc_words.specs.declared.asked.AskedCowns.{AskedCowns}
 use Rattle.boc_words.specs.declared.asked.AskedWhy.{AskedWhy}
 use Rattle.boc_words.specs.declared.asked.RunFile.{RunFile}
-use Rattle.boc_commands.specs.CownsAnswers.{AreTold}
+use Rattle.boc_commands.specs.CownsAnswers.{AreJudged, AreJudgedFor, AreTold, AreToldBy}
 use Rattle.boc_commands.specs.NamedRuns.{HasTimes, IsNamedRun}
 use Rattle.boc_commands.specs.Notes.{AreWanted, AreWhyNotes, TellsCowns, TellsWhy, notes_of_rows}
+use Rattle.boc_commands.specs.OrderAnswers.{IsOtherOrder}
 use Rattle.boc_commands.specs.TimedNotes.{workers_compared}
 use Rattle.boc_busy.specs.declared.timed.TimedRows.{TimedRows}
 use Rattle.boc_commands.specs.TimedAnswers.{end_of_times}
-use Rattle.boc_commands.specs.WhyAnswers.{IsAskedLine, IsGreedyLine, IsTold}
+use Rattle.boc_commands.specs.WhyAnswers.{AreStepsTold, IsTold, IsToldOf, IsWhyTold, advised_of, asked_of}
 use Rattle.boc_commands.proofs.OneNote.{one_note}
+use Rattle.boc_commands.proofs.OneOrder.{one_order}
 use Rattle.boc_commands.proofs.OneTimes.{one_ends}
 use Rattle.boc_commands.proofs.OneNaming.{one_named_run, run_is_record}
 
@@ -41,51 +50,127 @@ use Rattle.boc_commands.proofs.OneNaming.{one_named_run, run_is_record}
 pub rows_are : (r : Recorded) → IsRecord r → IsRows r.rows
 rows_are r is = is_rows r.cowns _ r.rows is.few (well_log r.cowns r.events is.legal) is.complete is.rows_are
 
+-- ---- what is asked
+
+-- in names that call everything the same the same is asked
+asked_same : (rows : List Row) (names others : Names) → CallTheSame names others → (sharing : Sharing) (workers : Option ℕ)
+    → asked_of rows names sharing workers ≡ asked_of rows others sharing workers
+asked_same rows names others same sharing workers = λ i. record {
+  rows = rows;
+  defs = same.defs i;
+  families = same.families i;
+  sharing = sharing;
+  workers = workers;
+}
+
 -- ---- why
 
-one_greedy_line : (rows : List Row) → IsRows rows → (p : ℕ) (line other : List ℕ) → IsGreedyLine rows p line → IsGreedyLine rows p other → line ≡ other
-one_greedy_line rows hr p line other a b =
-    let same = one_greedy_plan rows hr p a.starts a.workers b.starts b.workers a.greedy b.greedy in
-    let last : a.last ≡ b.last = one_end rows b.starts a.last b.last (subst (λ (plan : List ℕ). IsEnd rows plan a.last) same.0 a.last_is) b.last_is in
-    let bound : a.bound ≡ b.bound = one_bound rows p a.bound b.bound a.bound_is b.bound_is in
-    let text : greedy_line p a.last a.bound ≡ greedy_line p b.last b.bound = λ i. greedy_line p (last i) (bound i) in
-    a.text ∙ text ∙ sym b.text
+greedy_same : (greedy other : Option GreedyWhy) → SayTheSameIfAsked greedy other → AreSameGreedy greedy other
+greedy_same None None alike = alike
+greedy_same None (Some other) alike = absurd alike
+greedy_same (Some greedy) None alike = absurd alike
+greedy_same (Some greedy) (Some other) alike = alike
 
-one_asked_line : (rows : List Row) → IsRows rows → (workers : Option ℕ) (line other : List ℕ) → IsAskedLine rows workers line
-    → IsAskedLine rows workers other → line ≡ other
-one_asked_line rows hr None line other a b = a ∙ sym b
-one_asked_line rows hr (Some p) line other a b = one_greedy_line rows hr p line other a b
+one_why_told : (question : Asked) → IsRows question.rows → (names others : Names) → CallTheSame names others → (all : Bool) (timed at : Option TimedEnd)
+    → timed ≡ at → (text other : List ℕ) → IsWhyTold question names all timed text → IsWhyTold question others all at other → text ≡ other
+one_why_told question hr names others same all timed at ends text other a b =
+    let rows : List Row = seen question.sharing question.rows in
+    let found = one_advised question (advised_of a.told) (advised_of b.told) hr a.is.is_advised b.is.is_advised in
+    let order : a.told.order ≡ b.told.order =
+    one_order rows (rows_seen question.sharing question.rows hr) b.told.why.now.profile.span a.told.order b.told.order
+    (subst (λ (span : ℕ). IsOtherOrder rows span a.told.order) found.why.span a.is.is_order) b.is.is_order in
+    one_why_text names others same question.sharing all a.told b.told (record {
+      why = found.why;
+      greedy = greedy_same a.told.greedy.now b.told.greedy.now found.greedy;
+      advice = record { now = found.now; candidates = found.candidates; together = found.together };
+      order = order;
+      timed = a.is.timed_is ∙ ends ∙ sym b.is.timed_is;
+    }) text other a.text_is b.text_is
+
+one_steps_told : (question : Asked) → IsRows question.rows → (names others : Names) → CallTheSame names others → (most : ℕ) (text other : List ℕ)
+    → AreStepsTold question names most text → AreStepsTold question others most other → text ≡ other
+one_steps_told question hr names others same most text other a b =
+    let now : a.told.now ≡ b.told.now =
+    one_ends_now (seen question.sharing question.rows) (rows_seen question.sharing question.rows hr) question.workers a.told.now b.told.now a.are.now b.are.now in
+    one_steps_text names others same a.told b.told text other (record {
+      rows = a.are.rows ∙ sym b.are.rows;
+      work = a.are.work ∙ sym b.are.work;
+      now = now;
+      workers = a.are.workers ∙ sym b.are.workers;
+      most = a.are.most_are ∙ sym b.are.most_are;
+      steps = one_steps question most a.told.steps.now b.told.steps.now hr a.are.steps b.are.steps;
+    }) a.text_is b.text_is
+
+one_told_of : (question : Asked) → IsRows question.rows → (names others : Names) → CallTheSame names others → (all : Bool) (then : Option ℕ)
+    (timed at : Option TimedEnd) → timed ≡ at → (text other : List ℕ) → IsToldOf question names all then timed text → IsToldOf question others all then at other
+    → text ≡ other
+one_told_of question hr names others same all None timed at ends text other a b = one_why_told question hr names others same all timed at ends text other a b
+one_told_of question hr names others same all (Some most) timed at ends text other a b = one_steps_told question hr names others same most text other a b
 
 one_told : (rows : List Row) → IsRows rows → (names others : Names) → CallTheSame names others → (asked : AskedWhy) (times at : Option TimedRows)
     → option_map end_of_times times ≡ option_map end_of_times at → (text other : List ℕ) → IsTold rows names asked times text
     → IsTold rows others asked at other → text ≡ other
 one_told rows hr names others same asked times at ends text other a b =
-    let why : IsWhy rows asked.sharing others.defs.items others.families.items (length others.families.items) a.why =
-    subst (λ (families : List ℕ). IsWhy rows asked.sharing others.defs.items families (length families) a.why) same.families
-    (subst (λ (defs : List ℕ). IsWhy rows asked.sharing defs names.families.items (length names.families.items) a.why) same.defs a.is_why) in
-    let alike : SayTheSame a.why b.why =
-    one_why rows asked.sharing others.defs.items others.families.items (length others.families.items) a.why b.why why b.is_why in
-    let before : a.without_line ≡ b.without_line =
-    a.told.is ∙ one_why_text names others same asked.sharing a.why b.why alike asked.all (option_map end_of_times times)
-    ∙ ap (λ (end : Option TimedEnd). told_with others asked.sharing end b.why (told_chain others asked.all b.why)) ends ∙ sym b.told.is in
-    let line : a.put.line ≡ b.put.line =
-    one_asked_line (seen asked.sharing rows) (rows_seen asked.sharing rows hr) asked.workers a.put.line b.put.line a.put.line_is b.put.line_is in
-    let put : a.without_line ++ a.put.line ≡ b.without_line ++ b.put.line = λ i. before i ++ line i in
-    a.put.put ∙ put ∙ sym b.put.put
+    one_told_of (asked_of rows others asked.sharing asked.workers) hr names others same asked.all asked.then (option_map end_of_times times)
+    (option_map end_of_times at) ends text other
+    (subst (λ (question : Asked). IsToldOf question names asked.all asked.then (option_map end_of_times times) text)
+    (asked_same rows names others same asked.sharing asked.workers) a.told) b.told
 
 -- ---- cowns
+
+-- for so many workers the same cowns are judged in one way
+judged_same : (question : Asked) → IsRows question.rows → (p : ℕ) (hot other : HotCowns) → hot.span ≡ other.span → hot.cowns.items ≡ other.cowns.items
+    → (judged also : JudgedTold) → AreJudged question p hot judged.workers judged.cowns.now → AreJudged question p other also.workers also.cowns.now
+    → (judged.workers ≡ also.workers) × (judged.cowns.now ≡ also.cowns.now)
+judged_same question hr p hot other span cowns judged also a b =
+    let rows : List Row = seen question.sharing question.rows in
+    let shape : IsRows rows = rows_seen question.sharing question.rows hr in
+    let many : judged.workers.p ≡ also.workers.p = a.many ∙ sym b.many in
+    let work : judged.workers.work ≡ also.workers.work = a.work ∙ sym b.work in
+    let whole : judged.workers.span ≡ also.workers.span = a.span ∙ span ∙ sym b.span in
+    let end : judged.workers.end ≡ also.workers.end = one_greedy_end rows shape p judged.workers.end also.workers.end a.end b.end in
+    let workers : judged.workers ≡ also.workers = λ i. record { p = many i; work = work i; span = whole i; end = end i } in
+    let ends : a.ends ≡ b.ends = one_greedy_cown_sweep rows shape p (length question.families) a.ends b.ends a.ends_are b.ends_are in
+    let list : judged_cowns a.ends hot.cowns.items ≡ judged_cowns b.ends other.cowns.items = λ i. judged_cowns (ends i) (cowns i) in
+    (workers, a.cowns_are ∙ list ∙ sym b.cowns_are)
+
+judged_for_same : (question : Asked) → IsRows question.rows → (hot other : HotCowns) → hot.span ≡ other.span → hot.cowns.items ≡ other.cowns.items
+    → (workers : Option ℕ) (judged also : Option JudgedTold) → AreJudgedFor question hot workers judged → AreJudgedFor question other workers also
+    → JudgeTheSame judged also
+judged_for_same question hr hot other span cowns None judged also a b =
+    subst (λ (list : Option JudgedTold). JudgeTheSame list also) (sym a) (subst (λ (list : Option JudgedTold). JudgeTheSame None list) (sym b) tt)
+judged_for_same question hr hot other span cowns (Some p) None also a b = absurd a
+judged_for_same question hr hot other span cowns (Some p) (Some judged) None a b = absurd b
+judged_for_same question hr hot other span cowns (Some p) (Some judged) (Some also) a b = judged_same question hr p hot other span cowns judged also a b
+
+-- two reports that tell of the same rows as they must tell the same
+told_same : (question : Asked) → IsRows question.rows → (told other : CownsTold) → AreToldBy question told → AreToldBy question other → TellTheSame told other
+told_same question hr told other a b =
+    let rows : List Row = seen question.sharing question.rows in
+    let count : ℕ = length question.families in
+    let hot : HotCowns = told.hot.now in
+    let also : HotCowns = other.hot.now in
+    let span : hot.span ≡ also.span = span_same question.rows hr question.sharing count hot also a.is_hot b.is_hot in
+    let cowns : hot.cowns.items ≡ also.cowns.items = cowns_same question.rows hr question.sharing count hot also a.is_hot b.is_hot in
+    record {
+      span = span;
+      least = least_same question.rows hr question.sharing count hot also a.is_hot b.is_hot;
+      shared = shared_same question.rows hr question.sharing count hot also a.is_hot b.is_hot;
+      cowns = cowns;
+      judged = judged_for_same question hr hot also span cowns question.workers told.judged other.judged a.judged b.judged;
+      together = one_table question also.span told.together.now other.together.now
+          (subst (λ (tick : ℕ). AreCownsTogether question tick told.together.now) span a.together) b.together;
+      order = one_order rows (rows_seen question.sharing question.rows hr) also.span told.order other.order
+          (subst (λ (tick : ℕ). IsOtherOrder rows tick told.order) span a.order) b.order;
+    }
 
 told_of_cowns : (rows : List Row) → IsRows rows → (names others : Names) → CallTheSame names others → (asked : AskedCowns)
     (text other : List ℕ) → AreTold rows names asked text → AreTold rows others asked other → text ≡ other
 told_of_cowns rows hr names others same asked text other a b =
-    let count : ℕ = length others.families.items in
-    let hot : IsHotCowns rows asked.sharing count a.hot =
-    subst (λ (families : List ℕ). IsHotCowns rows asked.sharing (length families) a.hot) same.families a.is_hot in
-    a.told.is
-    ∙ one_cowns_text names others same a.hot b.hot (span_same rows hr asked.sharing count a.hot b.hot hot b.is_hot)
-    (least_same rows hr asked.sharing count a.hot b.hot hot b.is_hot) (shared_same rows hr asked.sharing count a.hot b.hot hot b.is_hot)
-    (cowns_same rows hr asked.sharing count a.hot b.hot hot b.is_hot) asked.sharing asked.top
-    ∙ sym b.told.is
+    let question : Asked = asked_of rows others asked.sharing asked.workers in
+    let are : AreToldBy question a.told =
+    subst (λ (q : Asked). AreToldBy q a.told) (asked_same rows names others same asked.sharing asked.workers) a.are in
+    one_cowns_text names others same a.told b.told (told_same question hr a.told b.told are b.are) asked.sharing asked.top text other a.text_is b.text_is
 
 -- ---- notes
 

@@ -9,8 +9,8 @@ use Rattle.boc_plans.specs.declared.sharing.Sharing.{Sharing}
 use Rattle.boc_plans.specs.declared.sweep.Sweep.{Sweep}
 use Rattle.boc_plans.specs.declared.sweep.Sweep.TheVariants.{Ticks, Cowns, Spawns}
 use Rattle.boc_record.specs.RecordTexts.{IsTextOf}
-use Rattle.boc_why.specs.RemedySteps.{AreRanked}
-use Rattle.boc_why.specs.declared.remedies.Placed.{Placed}
+use Rattle.boc_why.specs.Ranking.{AreRanked}
+use Rattle.boc_why.specs.declared.ranking.Placed.{Placed}
 use Rattle.boc_commands.specs.Answers.{AreSwept, first_of}
 
 -- ---- what is told

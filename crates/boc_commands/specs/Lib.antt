@@ -6,6 +6,7 @@ pub mod Promises
 pub mod Commands
 pub mod NamedRuns
 pub mod TimedAnswers
+pub mod OrderAnswers
 pub mod TimedNotes
 pub mod WhyAnswers
 pub mod CownsAnswers

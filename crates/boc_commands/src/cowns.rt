@@ -1,18 +1,27 @@
 // The command `cowns`.
 
-ghost use Rattle.std.specs.Prelude.{◌≡◌, ◌<◌, IfOk, MatchResult};
+ghost use Rattle.std.specs.Prelude.{◌≡◌, ◌<◌, ◌≤◌, ◌^◌, All, IfOk, MatchResult, length};
+ghost use Rattle.boc_program.specs.declared.limits.TheConstants.{MOST_COWNS};
+ghost use Rattle.boc_cowns.specs.Hot.{IsHotCowns};
+ghost use Rattle.boc_remedies.specs.Questions.{asked as asked_by};
 ghost use Rattle.boc_commands.specs.Commands.{AnswersInput, Leaves, CountsSource, CountsSink};
-ghost use Rattle.boc_commands.specs.CownsAnswers.{AreTold};
+ghost use Rattle.boc_commands.specs.CownsAnswers.{AreJudged, AreTold, IsJudgedText};
 ghost use Rattle.boc_commands.specs.Notes.{TellsCowns};
 ghost use Rattle.boc_commands.specs.NamedRuns.{AreFew, IsOfNamedRun, IsShort, RefusesNamedRun};
 
 use crate::fault::Fault;
 use crate::named_run::{NamedRun, Origin, named_run, taken};
 use crate::notes::{Told, notes_on};
-use boc_cowns::hot_cowns;
-use boc_cowns_report::cowns_text;
+use crate::order::other_order;
+use boc_advice_report::{ForWorkers, OtherOrder};
+use boc_cowns::{HotCowns, hot_cowns};
+use boc_cowns_report::{CownsTold, JudgedCown, JudgedTold, cowns_text, judged_cowns};
+use boc_names::Names;
+use boc_program::count::Workers;
 use boc_progress::Progress;
+use boc_remedies::{Question, Together, cowns_together};
 use boc_text::{Sink, Source, put_out};
+use boc_whatif::WhatIf;
 use boc_words::{AskedCowns, RunFile};
 use boc_workers::Gate;
 use std::alloc::{AllocError, Global};
@@ -78,7 +87,7 @@ fn cowns_told<R: Threads + Wait + Sync, G: Gate>(
     };
     let run = named_run(rt, alloc, text, origin, gate, progress)?;
     let notes = notes_on(alloc, asked.quiet, &run.rows, &run.names.rows)?;
-    let text = told(rt, alloc, &run, asked)?;
+    let text = told(rt, alloc, &run, asked, progress)?;
     Ok(Told { text, notes })
 }
 
@@ -88,11 +97,99 @@ fn told<R: Threads + Sync>(
     alloc: Global,
     run: &NamedRun,
     asked: AskedCowns,
+    progress: &mut dyn Progress,
 ) -> Result<Vec<u8>, AllocError>
     requires { AreFew run.now.rows run.now.names }
     ensures { IfOk result (λ text. AreTold run.now.rows run.now.names asked text.items) }
 {
-    let families: &[u32] = &run.names.families;
-    let hot = hot_cowns(rt, alloc, &run.rows, asked.sharing, families.len() as u32)?;
-    cowns_text(alloc, &run.names, asked.sharing, asked.top, &hot)
+    let names = &run.names;
+    let question = Question {
+        rows: &run.rows,
+        defs: &names.defs,
+        families: &names.families,
+        sharing: asked.sharing,
+        workers: asked.workers,
+    };
+    let count = question.families.len();
+    let hot = hot_cowns(rt, alloc, &run.rows, asked.sharing, count as u32)?;
+    let together = cowns_together(rt, alloc, &question, hot.span)?;
+    let order = other_order(alloc, &question, hot.span)?;
+    let told = told_for(&hot, None, &together, order);
+    match asked.workers {
+        Some(workers) => judged_text(
+            rt, alloc, names, &question, workers, asked.top, &told, progress,
+        ),
+        None => cowns_text(alloc, names, asked.sharing, asked.top, &told),
+    }
+}
+
+// Returns these parts of what is reported as one.
+fn told_for<'a>(
+    hot: &'a HotCowns,
+    judged: Option<JudgedTold<'a>>,
+    together: &'a [Together],
+    order: Option<OtherOrder>,
+) -> CownsTold<'a>
+    ensures { result ≡ record { hot = hot.entry; judged = judged.entry; together = together.entry; order = order } }
+{
+    CownsTold {
+        hot,
+        judged,
+        together,
+        order,
+    }
+}
+
+// Returns the same with the cowns as they are judged for this many workers.
+fn judged_text<R: Threads + Sync>(
+    rt: &R,
+    alloc: Global,
+    names: &Names,
+    question: &Question<'_>,
+    workers: Workers,
+    most: Option<u32>,
+    told: &CownsTold<'_>,
+    progress: &mut dyn Progress,
+) -> Result<Vec<u8>, AllocError>
+    requires few { length question.now.families.now ≤ MOST_COWNS }
+    requires hot { IsHotCowns question.now.rows.now question.now.sharing (length question.now.families.now) told.now.hot.now }
+    requires low { All (λ own. own.held < 2 ^ 56) told.now.hot.now.cowns.items }
+    requires some { 0 < told.now.hot.now.span }
+    ensures { IfOk result (λ text. IsJudgedText (asked_by question.now) workers names.now most told.now text.items) }
+{
+    let (for_workers, cowns) = judged(rt, alloc, question, workers, told.hot, progress)?;
+    let judged = Some(JudgedTold {
+        workers: for_workers,
+        cowns: &cowns,
+    });
+    let told = told_for(told.hot, judged, told.together, told.order);
+    cowns_text(alloc, names, question.sharing, most, &told)
+}
+
+// Returns what the rows take by the workers, and then the cowns by the ends of the greedy plans without them.
+fn judged<R: Threads + Sync>(
+    rt: &R,
+    alloc: Global,
+    question: &Question<'_>,
+    workers: Workers,
+    hot: &HotCowns,
+    progress: &mut dyn Progress,
+) -> Result<(ForWorkers, Vec<JudgedCown>), AllocError>
+    requires few { length question.now.families.now ≤ MOST_COWNS }
+    requires hot { IsHotCowns question.now.rows.now question.now.sharing (length question.now.families.now) hot.now }
+    requires low { All (λ own. own.held < 2 ^ 56) hot.now.cowns.items }
+    ensures judged { IfOk result (λ found. AreJudged (asked_by question.now) workers hot.now found.0 found.1.items) }
+    ensures low { IfOk result (λ found. All (λ own. own.hot.held < 2 ^ 56) found.1.items) }
+{
+    let what_if = WhatIf::new(alloc, question.rows, question.sharing)?;
+    let count = question.families.len();
+    let ends = what_if.greedy_cown_sweep(rt, alloc, count, workers, progress)?;
+    let cowns = judged_cowns(alloc, &hot.cowns, &ends)?;
+    let for_workers = ForWorkers {
+        p: workers.number(),
+        work: what_if.work(),
+        span: hot.span,
+        end: what_if.greedy(alloc, workers)?.ends_at,
+    };
+    Ok((for_workers, cowns))
 }

@@ -14,6 +14,7 @@ pub mod laws_of_names;
 mod meant;
 pub mod named_run;
 mod notes;
+mod order;
 mod outcomes;
 mod profile;
 mod report;

@@ -42,8 +42,8 @@ use std::alloc::{AllocError, Global};
 use std::sync::Wait;
 use std::thread::Threads;
 
-// The word that the text of a record begins with. No program does.
-const RECORD_WORD: &[u8] = b"boc";
+/// The word that the text of a record begins with. No program does.
+pub const RECORD_WORD: &[u8] = b"boc";
 
 /// The rows of a run, what they and their cowns are called, and when they ran, where ticks are time.
 #[derive(Drop)]

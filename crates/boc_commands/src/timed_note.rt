@@ -5,6 +5,7 @@ ghost use Rattle.boc_plans.specs.Greedy.{IsSpan};
 ghost use Rattle.boc_plans.specs.Seen.{seen};
 ghost use Rattle.boc_commands.specs.TimedNotes.{IsNoteFor, IsOther, IsTimedNote, IsTimedSpan, compared_for, timed_note, workers_compared};
 
+use crate::named_run::RECORD_WORD;
 use boc_dispatch::Tell;
 use boc_order::waits_and_plan;
 use boc_plans::sharing::{SeenRows, Sharing};
@@ -18,9 +19,6 @@ use boc_text::put_number;
 use boc_timed::{TimedFault, timed_run};
 use boc_words::{RunFile, Schedule};
 use std::alloc::{AllocError, Global};
-
-// The word that the text of a record begins with. No program does.
-const RECORD_WORD: &[u8] = b"boc";
 
 /// A run with which the one that is reported on is compared: that of the program that a text spells, by this many workers that take ticks as time.
 #[derive(Drop)]

@@ -1,40 +1,44 @@
 // The command `why`.
 
-ghost use Rattle.std.specs.Prelude.{◌≡◌, ◌<◌, ◌++◌, ℕ, List, Option, IfOk, MatchResult, OnOk};
+ghost use Rattle.std.specs.Prelude.{◌≡◌, ◌<◌, ◌≤◌, ℕ, List, Option, All, IfOk, MatchResult, length};
 ghost use Rattle.std.specs.Option.{option_map};
-ghost use Rattle.boc_plans.specs.Seen.{seen};
+ghost use Rattle.boc_program.specs.declared.limits.TheConstants.{MOST_COWNS, MOST_ROWS};
+ghost use Rattle.boc_remedies.specs.Questions.{asked as asked_by};
 ghost use Rattle.boc_commands.specs.Commands.{AnswersInput, Leaves, CountsSource, CountsSink};
-ghost use Rattle.boc_commands.specs.NamedRuns.{AreFew, IsNamedRun, IsOfNamedRun, IsShort, RefusesNamedRun};
+ghost use Rattle.boc_commands.specs.NamedRuns.{AreFew, IsOfNamedRun, IsShort, RefusesNamedRun};
 ghost use Rattle.boc_names.specs.Names.{texts_of};
 ghost use Rattle.boc_commands.specs.Notes.{AreWanted, AreWhyNotes, TellsWhy};
 ghost use Rattle.boc_commands.specs.TimedAnswers.{end_of_times};
 ghost use Rattle.boc_commands.specs.TimedNotes.{IsOther, workers_compared};
-ghost use Rattle.boc_commands.specs.WhyAnswers.{IsTold, PutsLine};
+ghost use Rattle.boc_commands.specs.WhyAnswers.{AreStepsTold, IsTold, IsWhyTold};
 
 use crate::fault::Fault;
 use crate::named_run::{NamedRun, Origin, named_run, taken};
 use crate::notes::{Told, notes_on};
+use crate::order::other_order;
 use crate::timed_note::{Other, other_run, timed_note_on};
+use boc_advice_report::{StepsTold, WhyTold, steps_text, why_text};
 use boc_busy::TimedRows;
-use boc_greedy::greedy;
+use boc_names::Names;
+use boc_order::work;
 use boc_plans::sharing::Sharing;
 use boc_program::count::Workers;
 use boc_progress::Progress;
-use boc_runs::rows::Rows;
+use boc_remedies::{Question, advise, ends_of, steps_of};
 use boc_text::{Sink, Source, put_out};
-use boc_why::why_of;
-use boc_why_report::{TimedEnd, put_greedy_line, why_text};
+use boc_why_report::TimedEnd;
 use boc_words::{AskedWhy, RunFile};
 use boc_workers::Gate;
 use std::alloc::{AllocError, Global};
 use std::sync::Wait;
 use std::thread::Threads;
 
-/// Reads a program, which it runs, or the text of a record, as its first word says, and writes why the rows of the run take as long as they do: the chain that
-/// holds them back, its ticks by def and by link, what would move the end forward, and a lower bound for any order on the cowns. A last line reports on the
-/// greedy plan for the given number of workers, if that is requested. For a program whose workers take ticks as time, the first line has the end of the run.
-/// `bytes` are those of the file given with the input, if there is one. The notes replace those in `notes`. If one thread runs a program, with no record of
-/// its run, and plans are for some workers, a last note has the span of the timed run by as many workers, at most 16, where that is another one.
+/// Reads a program, which it runs, or the text of a record, as its first word says, and writes why the rows of the run take as long as they do. That is the
+/// chain that holds them back, its ticks by def and by link, what would move the end forward, a lower bound for any order on the cowns, and an order that
+/// ends sooner, if one was found. For a number of workers, if one is given, it judges by the greedy plan. Where that is requested, it writes one change after
+/// another instead. For a program whose workers take ticks as time, the first line has the end of the run. `bytes` are those of the file given with the
+/// input, if there is one. The notes replace those in `notes`. If one thread runs a program, with no record of its run, and plans are for some workers, a last
+/// note has the span of the timed run by as many workers, at most 16, where that is another one.
 ///
 /// A program is refused as by `run`, a record as by `profile`, and a file as its kind is. Nothing is written unless the whole answer is ready. After a failing
 /// write a beginning of it went out. Plans are made in threads. The text of a record is taken into memory as a whole. `progress` receives how far
@@ -130,7 +134,7 @@ fn why_notes(
     Ok(notes)
 }
 
-// Returns what is reported of why the rows of a run take as long as they do, in their names.
+// Returns what is reported of why the rows of a run take as long as they do, in their names; or, where that is requested, of one change after another.
 fn told<R: Threads + Sync>(
     rt: &R,
     alloc: Global,
@@ -140,13 +144,81 @@ fn told<R: Threads + Sync>(
     requires { AreFew run.now.rows run.now.names }
     ensures { IfOk result (λ text. IsTold run.now.rows run.now.names asked run.now.times text.items) }
 {
-    let names = &run.names;
-    let sharing = asked.sharing;
-    let why = why_of(rt, alloc, &run.rows, sharing, &names.defs, &names.families)?;
-    let timed = end_of_times(&run.times);
-    let mut text = why_text(alloc, names, sharing, asked.all, timed, &why)?;
-    put_asked_line(alloc, &mut text, &run.rows, sharing, asked.workers)?;
-    Ok(text)
+    let question = Question {
+        rows: &run.rows,
+        defs: &run.names.defs,
+        families: &run.names.families,
+        sharing: asked.sharing,
+        workers: asked.workers,
+    };
+    match asked.then {
+        Some(most) => steps_told(rt, alloc, &run.names, &question, most),
+        None => why_told_of(rt, alloc, run, &question, asked.all),
+    }
+}
+
+// Returns what is reported of one change after another.
+fn steps_told<R: Threads + Sync>(
+    rt: &R,
+    alloc: Global,
+    names: &Names,
+    question: &Question<'_>,
+    most: u32,
+) -> Result<Vec<u8>, AllocError>
+    requires defs { length question.now.defs.now ≡ length question.now.rows.now }
+    requires few_defs { All (λ d. d < MOST_ROWS) question.now.defs.now }
+    requires few_cowns { length question.now.families.now ≤ MOST_COWNS }
+    requires few_families { All (λ f. f < MOST_COWNS) question.now.families.now }
+    ensures { IfOk result (λ text. AreStepsTold (asked_by question.now) names.now most text.items) }
+{
+    let now = ends_of(alloc, question.rows, question.sharing, question.workers)?;
+    let steps = steps_of(rt, alloc, question, most)?;
+    let told = StepsTold {
+        rows: question.rows.as_slice().len(),
+        work: work(question.rows.as_slice()),
+        now,
+        workers: number_of(question.workers),
+        most,
+        steps: &steps,
+    };
+    steps_text(alloc, names, &told)
+}
+
+// Returns how many workers there are, where a number of these is given.
+fn number_of(workers: Option<Workers>) -> Option<u32>
+    ensures { result ≡ workers }
+{
+    match workers {
+        Some(workers) => Some(workers.number()),
+        None => None,
+    }
+}
+
+// Returns what is reported of why the rows of a run take as long as they do.
+fn why_told_of<R: Threads + Sync>(
+    rt: &R,
+    alloc: Global,
+    run: &NamedRun,
+    question: &Question<'_>,
+    all: bool,
+) -> Result<Vec<u8>, AllocError>
+    requires few { AreFew question.now.rows.now run.now.names }
+    requires defs { length question.now.defs.now ≡ length question.now.rows.now }
+    requires few_defs { All (λ d. d < MOST_ROWS) question.now.defs.now }
+    requires few_cowns { length question.now.families.now ≤ MOST_COWNS }
+    requires few_families { All (λ f. f < MOST_COWNS) question.now.families.now }
+    ensures { IfOk result (λ text. IsWhyTold (asked_by question.now) run.now.names all (option_map end_of_times run.now.times) text.items) }
+{
+    let found = advise(rt, alloc, question)?;
+    let order = other_order(alloc, question, found.why.profile.span)?;
+    let told = WhyTold {
+        why: &found.why,
+        greedy: &found.greedy,
+        advice: &found.advice,
+        order,
+        timed: end_of_times(&run.times),
+    };
+    why_text(alloc, &run.names, question.sharing, all, &told)
 }
 
 // Returns when a run was over, and by how many workers, where it is known when its rows ran.
@@ -160,21 +232,4 @@ fn end_of_times(times: &Option<TimedRows>) -> Option<TimedEnd>
         }),
         None => None,
     }
-}
-
-// Appends the line of the greedy plan to a text, where a number of workers is given.
-fn put_asked_line(
-    alloc: Global,
-    text: &mut Vec<u8>,
-    rows: &Rows,
-    sharing: Sharing,
-    workers: Option<Workers>,
-) -> Result<(), AllocError>
-    ensures { OnOk result (PutsLine (seen sharing rows.now) workers text.old.items text.new.items) }
-{
-    let Some(workers) = workers else {
-        return Ok(());
-    };
-    let plan = greedy(alloc, rows, workers, sharing)?;
-    put_greedy_line(text, u64::from(plan.p), plan.ends_at, plan.bound)
 }

@@ -9,7 +9,7 @@ ghost use Rattle.boc_view.specs.Materials.{AreCosts, HasParts, IsMaterial, IsPar
 
 use crate::wanted::{Picture, Wanted};
 use boc_busy::TimedRows;
-use boc_commands::named_run::named_run;
+use boc_commands::named_run::{RECORD_WORD, named_run};
 use boc_commands::timed_note::{other_run, timed_note_on};
 use boc_commands::{Fault, NamedRun, Origin};
 use boc_cowns::{HotCowns, hot_cowns};
@@ -24,9 +24,6 @@ use boc_workers::Gate;
 use std::alloc::{AllocError, Global};
 use std::sync::Wait;
 use std::thread::Threads;
-
-// The word that the text of a record begins with. No program does.
-const RECORD_WORD: &[u8] = b"boc";
 
 /// What a picture of a run is made of. A part that it doesn't show is not there.
 #[derive(Drop)]

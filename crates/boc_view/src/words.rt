@@ -27,15 +27,16 @@ goes to standard output.
 What is drawn is the earliest plan of the run: each behaviour (task) starts as
 soon as it is spawned and has its cowns. The chain is the critical path: its
 ticks add up to the span.
-  text   Has a line for each of up to 60 behaviours. With --cowns, --curve or
-         --p, prints what the first of these shows instead. --curve shows the
-         ends of greedy plans for 1, 2, 4 .. workers, up to P.
+  text   Has a line for each of up to 60 behaviours. With --cowns, --p or
+         --curve, prints what these show instead; with --curve not what --p
+         does. --curve shows the ends of greedy plans for 1, 2, 4 .. workers,
+         up to P.
   page   Has the plan, the curve, the chain, what each behaviour and each cown
          costs, and the program.
 With --timed, text, plan, page and trace add which worker runs what, and when;
-`text --curve` doesn't. If --p shows a plan, and one thread runs the program, a
-note on standard error says if the timed run on P workers, at most 16, has
-another span.
+`text --curve` doesn't. If --p shows a plan, without -w above 1, --seed, --timed
+and --record, a note on standard error says if the timed run on P workers, at
+most 16, has another span.
 
 Exit statuses, as those of boc:
   0  Success
@@ -188,7 +189,7 @@ fn with_common<'a>(alloc: Global, command: Command<'a>) -> Result<Command<'a>, A
         .arg(flag(
             alloc,
             "timed",
-            "Simulate N workers with ticks as time; 16 without -w",
+            "Simulate workers by ticks: -w, else P up to 16, else 16",
         ))?
         .arg(number(
             alloc,

@@ -85,6 +85,19 @@ main { when go(0; b); when go(1; c); when go(2; d); }
 FOUND = {100: 2, 200: 3}
 
 
+# What earlier spawns save for two workers is more than another plan of the same rows could.
+LATE_SPAWN = b"""def first(;) { work 37; when second(;); }
+def second(;) { work 33; }
+def late(;) { work 60; }
+main {
+    when first(;);
+    work 39;
+    when late(;);
+    work 14;
+}
+"""
+
+
 def cases(program):
     yield "the verdict order blames no order where there is one alone", order_is_not_blamed(program)
     yield "the lower bound counts the ticks of the run at hand", bound_is_of_this_run(program)
@@ -95,8 +108,24 @@ def cases(program):
     yield "the lower bound counts the ticks of the spawns of the run at hand", spawned_earlier(program, LATE_IN_BODY, EARLY_IN_BODY, b"15 (their spawns", 10)
     yield "a split may gain more than leaving a cown out", split(program)
     yield "a plan of another run may end before the least of a curve", least_is_of_this_run(program)
+    yield "earlier spawns may save more than another plan of the same rows", spawns_save_more(program)
+    yield "without a cown a greedy plan may end later", later_without(program)
     yield "HANDBOOK tells how a shop ends whose buys pay first", pays_first(program)
     yield "OUTCOMES tells how many ends so many runs find", found_ends(program)
+
+
+def spawns_save_more(program):
+    output = program.run(["why", "-p", "2"], LATE_SPAWN).output.decode()
+    end, least = map(int, re.search(r"^2 workers   end (\d+)   least (\d+) ", output, re.M).groups())
+    saved = int(re.search(r"^  early spawns by main +\d+ +(\d+) ", output, re.M)[1])
+    return None if output.splitlines()[-1].startswith("plan: ") and saved > end - least else f"it says {output!r}"
+
+
+def later_without(program):
+    output = program.run(["cowns", "-p", "2"], program.example("pipeline.boc")).output.decode()
+    end = int(re.search(r"^2 workers   end (\d+) ", output, re.M)[1])
+    left = int(re.search(r"^parser .* (\d+)$", output, re.M)[1])
+    return None if left > end else f"it says {output!r}"
 
 
 def span_of(report):

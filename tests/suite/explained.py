@@ -1097,6 +1097,10 @@ FILES = [
     (["run", "a.boc", "b.boc"], "unexpected argument 'b.boc' found\n\nUsage: boc run [OPTIONS] [FILE]", [f"`a.boc` and `b.boc` {ONE_FILE}"]),
     (["why", "--record", "r", "a.boc", "-w2", "--p", "3", "--quiet", "b.boc"], "unexpected argument 'b.boc' found\n\nUsage: boc why [OPTIONS] [FILE]",
      [f"`a.boc` and `b.boc` {ONE_FILE}"]),
+    (["why", "--then", "3", "a.boc", "-p", "2", "b.boc"], "unexpected argument 'b.boc' found\n\nUsage: boc why [OPTIONS] [FILE]",
+     [f"`a.boc` and `b.boc` {ONE_FILE}"]),
+    (["cowns", "-p", "3", "a.boc", "--top", "2", "b.boc"], "unexpected argument 'b.boc' found\n\nUsage: boc cowns [OPTIONS] [FILE]",
+     [f"`a.boc` and `b.boc` {ONE_FILE}"]),
     (["whatif", "a.record", "1=2", "b.record"], "the input cannot be read from more than one FILE\n\nUsage: boc <COMMAND>", [
         f"`a.record` and `b.record` {ONE_FILE}",
         "an argument with neither = nor @ is a FILE, and each other one an edit"]),
@@ -1339,12 +1343,13 @@ def pairs(program):
     """A program and its record, each where the other is wanted."""
     text, record = program.example("transfer.boc"), program.example("transfer.record")
     swapped = "the other file looks like a program: swap the two"
-    for command in ("values", "why", "cowns"):
+    for words in (["values"], ["why"], ["cowns"], ["why", "--then", "2"], ["why", "--then", "2", "-p", "3"], ["cowns", "-p", "2"]):
+        command = words[0]
         reads = f"this looks like a record; {command} reads the program, and --record its record: boc {command} --record RECORD PROGRAM"
         takes = "this looks like a program; --record takes a record: boc run FILE > RECORD"
         for content, source, fault, lines in ((text, record, "line 14: 2 BadToken", [reads, swapped]), (record, record, "line 14: 2 BadToken", [reads]),
                                               (text, text, "record: line 1: 1 Header", [takes])):
-            yield f"{command}: {lines}", told_in_file(program, [command], "--record", content, source, fault, lines)
+            yield f"{' '.join(words)}: {lines}", told_in_file(program, words, "--record", content, source, fault, lines)
     for command in ("check", "whatif"):
         reads = f"{command} reads the record, and --program its program: boc {command} --program PROGRAM RECORD"
         for content, source, fault, lines in ((record, text, "program: line 14: 2 BadToken", [f"this looks like a record; {reads}"]),

@@ -1,7 +1,8 @@
 """What `cowns` tells, computed plainly from the rows of a record and the names of its cowns."""
 from typing import NamedTuple, Tuple
 
-from .why import bound_line, table
+from . import advice
+from .why import Names, bound_line, table
 
 MOST = 75
 HEADS = ["cown", "rows", "wrote", "held", "of span", "waited", "chain", "without"]
@@ -136,25 +137,38 @@ def shared_reads(names, shared, hot):
     return line + f": {rows - wrote} of the {rows} rows of {names[cown]} only read it" if wrote < rows else line
 
 
-def cowns_text(record, names=None, shared=False, top=None):
-    """The text that `cowns` writes for a record's text: all cowns, or the first so many. The names are those of its cowns, in their order; without them
-    cowns are called by their numbers."""
+def without_lines(names, whole, told, ends):
+    """A line for each of these cowns, with the greedy end without it where there are such ends."""
+    lines = [HEADS + ([] if ends is None else ["end without"])]
+    for cown, having, wrote, held, waited, through, left, _ in told:
+        lines.append([names[cown], str(having), str(wrote), str(held), f"{held * 100 // whole}%", str(waited), str(through), str(left)])
+        lines[-1] += [] if ends is None else [str(ends[cown])]
+    return table("l" + "r" * (len(lines[0]) - 1), lines)
+
+
+def cowns_text(record, called=None, shared=False, top=None, workers=None):
+    """The text that `cowns` writes for a record's text: all cowns, or the first so many. The names are those of its rows and cowns; without them these are
+    called by their numbers."""
     rows, count = rows_of(record)
-    names = [f"cown {number}" for number in range(count)] if names is None else names
+    called = called or Names(len(rows), count)
+    names = called.cowns
     seen = rows if shared else exclusive(rows)
     hot = hot_cowns(rows, count, shared)
     whole, spawns, reads = span(seen), span(bare(seen)), span(rows)
-    told = hot if top is None else hot[:top]
-    lines = [HEADS]
-    for cown, having, wrote, held, waited, through, left, _ in told:
-        lines.append([names[cown], str(having), str(wrote), str(held), f"{held * 100 // whole}%", str(waited), str(through), str(left)])
-    lines = table("lrrrrrrr", lines)
+    ends = {cown: advice.greedy_end(freed(seen, cown), workers) for cown in range(count)} if workers else None
+    told = (sorted(hot, key=lambda own: ends[own[0]]) if workers else hot)[:top]
+    lines = without_lines(names, whole, told, ends)
     more = count - len(told)
     if more:
         lines.append(f".. and {more} more cown" + ("s" if more > 1 else ""))
+    lines += advice.cowns_together(seen, called, workers)
     lines.append(f"span {whole}; by spawns alone {spawns}" + (f"; busiest cown {hot[0][3]}" if hot else ""))
     lines.append(verdict(names, whole, spawns, hot))
     lines.append(bound_line(spawns, [(own[3], own[7]) for own in sorted(hot)], names, shared))
+    lines += advice.order_lines(seen, called)
+    if workers:
+        end = advice.greedy_end(seen, workers)
+        lines += [advice.head_line(seen, workers, end), advice.verdict_line(seen, workers, end)]
     if not shared and reads < whole:
         lines.append(shared_reads(names, reads, hot))
     return "".join(line + "\n" for line in lines)

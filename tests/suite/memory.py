@@ -104,7 +104,7 @@ def runs(program):
     beside, of_program = os.path.join(program.examples, "transfer.record"), os.path.join(program.examples, "transfer.boc")
     yield ["why", "--record", beside], text, done(TRANSFER.encode())
     yield ["cowns"], record, done(cowns_text(record.decode()).encode())
-    yield ["cowns", "--record", beside, "--top", "1"], text, done(cowns_text(record.decode(), ["a", "b"], top=1).encode())
+    yield ["cowns", "--record", beside, "--top", "1"], text, done(cowns_text(record.decode(), RunNames(follow(Program(text), record)), top=1).encode())
     yield ["check", "--program", of_program], record, done(b"ok 4\n")
     yield ["values", "--record", beside], text, done(b"a 12\nb 4\n")
     yield ["whatif", "--program", of_program, "--without", "a", "--short"], record, done(WITHOUT_A_SHORT)

@@ -3,7 +3,8 @@ import random
 import re
 
 from . import names_file, why
-from .hot_cowns import cowns_text
+from .hot_cowns import cowns_text, rows_of
+from .programs import Program, RunNames, follow
 from .plans import random_rows, record_of
 from .running import done, fault_of, refused
 
@@ -18,9 +19,30 @@ pricer      6      6   228      81%     180    190      219
 parser     12     12   156      55%     660     13      277
 checker    12     12   138      49%       0      0      279
 store       6      6    48      17%       0      0      279
+several cowns at once            without
+  parser and pricer                  202
+  parser and checker and pricer      119
+  every cown                         109
 span 279; by spawns alone 109; busiest cown 228
 load: pricer is held 228 of 279 ticks; split it, or shorten what holds it
 lower bound for any order: 261 (pricer is held for 228 ticks, from tick 33 on)
+"""
+
+PIPELINE_FOR_TWO = """\
+cown     rows  wrote  held  of span  waited  chain  without  end without
+pricer      6      6   228      81%     180    190      219          322
+checker    12     12   138      49%       0      0      279          345
+store       6      6    48      17%       0      0      279          352
+parser     12     12   156      55%     660     13      277          371
+several cowns at once            end without  without
+  parser and pricer                      326      202
+  parser and checker and pricer          314      119
+  every cown                             314      109
+span 279; by spawns alone 109; busiest cown 228
+load: pricer is held 228 of 279 ticks; split it, or shorten what holds it
+lower bound for any order: 261 (pricer is held for 228 ticks, from tick 33 on)
+2 workers   end 352   least 305   work/2 305   busy 86%
+plan: neither the work nor the critical path takes more than 305 of 352 ticks; earlier spawns or another order may save up to 47
 """
 
 SCOREBOARD = """\
@@ -29,6 +51,8 @@ best         50     12   472      98%    7892    463      207
 player[3]     4      4   166      34%       0      0      478
 player[1]     4      4   165      34%       0      0      478
 .. and 8 more cowns
+several cowns at once  without
+  every cown               207
 span 478; by spawns alone 207; busiest cown 472
 load: best is held 472 of 478 ticks; split it, or shorten what holds it
 lower bound for any order: 478 (best is held for 472 ticks, from tick 6 on)
@@ -39,9 +63,13 @@ TREE = """\
 cown      rows  wrote  held  of span  waited  chain  without
 node[20]     1      1    84      48%       0      0      174
 .. and 63 more cowns
+several cowns at once  without
+  node[*] and need[*]      141
+  every cown               141
 span 174; by spawns alone 141; busiest cown 84
 spawns: they alone need 141 of 174 ticks; spawn earlier, or do less
 lower bound for any order: 141 (their spawns take that long)
+a better order ends at 141: start whatever can start; it differs first at node[10], where row 37, up(21, 21; node[10], need[10]), comes before row 36, up(20, 20; node[10], need[10])
 """
 
 # The cown is held for most of the span, and nobody waits for it: each behaviour spawns the next one as it ends.
@@ -57,6 +85,8 @@ lower bound for any order: 13 (a is held for 11 ticks, from tick 2 on)
 PEEKS_SHARED = """\
 cown  rows  wrote  held  of span  waited  chain  without
 a        3      1     2      16%       6      7       10
+several cowns at once  without
+  every cown                10
 span 12; by spawns alone 10; busiest cown 2
 spawns: they alone need 10 of 12 ticks; spawn earlier, or do less
 lower bound for any order: 10 (their spawns take that long)
@@ -98,7 +128,7 @@ def cases(program):
 def of_example(program, name, text):
     """The cowns of a run by one thread: of the program, of its record, and of the record with a file of names."""
     record = program.run(["run"], text).output
-    names = cown_names(text)
+    names = RunNames(follow(Program(text), record))
     for words, shared, top in [([], False, None), (["--shared-reads"], True, None), (["--top", "2"], False, 2)]:
         told = cowns_text(record.decode(), names, shared, top).encode()
         yield f"{name}: cowns {' '.join(words)}", fault_of(done(told), program.run(["cowns", *words], text))
@@ -106,9 +136,11 @@ def of_example(program, name, text):
             done(cowns_text(record.decode(), None, shared, top).encode()), program.run(["cowns", *words], record))
         yield f"{name}: cowns {' '.join(words)} of the record beside it", fault_of(
             done(told), program.run_beside(["cowns", *words], "--record", record, text))
-    file = b"".join(b"@ %d %s\n" % (number, name.encode()) for number, name in enumerate(names))
+    file = b"".join(b"@ %d %s\n" % (number, name.encode()) for number, name in enumerate(cown_names(text)))
+    rows, cowns = why.rows_of(record)
+    called = Called(*names_file.names_of(file, len(rows), cowns))
     yield f"{name}: cowns with names", fault_of(
-        done(cowns_text(record.decode(), names).encode()), program.run_beside(["cowns"], "--names", file, record))
+        done(cowns_text(record.decode(), called).encode()), program.run_beside(["cowns"], "--names", file, record))
     yield f"{name}: why of the record beside it", fault_of(program.run(["why"], text), program.run_beside(["why"], "--record", record, text))
 
 
@@ -135,9 +167,16 @@ def of_rows(program, chance, number):
     file = random_names(chance, len(rows), cowns)
     called = Called(*names_file.names_of(file, len(rows), cowns))
     yield f"random rows {number}: why with names", fault_of(done(why.why(rows, called)), program.run_beside(["why"], "--names", file, record))
-    for words, shared in [([], False), (["--shared-reads"], True)]:
+    for words, shared, top, workers in [([], False, None, None), (["--shared-reads"], True, None, None), (["-p", "2"], False, None, 2),
+                                        (["-p", "3", "--shared-reads", "--top", "2"], True, 2, 3)]:
         yield f"random rows {number}: cowns with names {' '.join(words)}", fault_of(
-            done(cowns_text(record.decode(), called.cowns, shared).encode()), program.run_beside(["cowns", *words], "--names", file, record))
+            done(cowns_text(record.decode(), called, shared, top, workers).encode()), program.run_beside(["cowns", *words], "--names", file, record))
+    shared = rows_of(record.decode())[0]
+    for words, told in [(["-p", "2"], why.why(rows, called, workers=2)), (["--then", "3"], why.steps(rows, called, 3)),
+                        (["--then", "5", "-p", "3", "--shared-reads"], why.steps_of_seen(shared, called, 5, 3))]:
+        yield f"random rows {number}: why with names {' '.join(words)}", fault_of(done(told), program.run_beside(["why", *words], "--names", file, record))
+    answer = program.run_beside(["why", "-p", "2", "--shared-reads"], "--names", file, record)
+    yield f"random rows {number}: why with names -p 2 --shared-reads", why.fault_of_advice(answer, shared, called, 2)
 
 
 def faults(program):
@@ -161,6 +200,7 @@ def faults(program):
     for command in ("why", "cowns"):
         absent = program.run([command, "--names", "/nowhere/at/all"], transfer)
         yield f"{command}: a file that isn't there", None if absent.status == 5 and absent.errors.startswith(b"boc: /nowhere/at/all: ") else str(absent)
-    line = b"the greedy plan for 2 workers ends at 9, its bound is 14\n"
-    yield "transfer.boc: why --p 2", fault_of(
-        done(why.TRANSFER.encode() + line), program.run(["why", "--p", "2"], transfer))
+    yield "transfer.boc: why --p 4", fault_of(done(why.TRANSFER_FOR_FOUR.encode()), program.run(["why", "--p", "4"], transfer))
+    pipeline = program.example("pipeline.boc")
+    yield "pipeline.boc: why --then 3 --p 2", fault_of(done(why.PIPELINE_STEPS.encode()), program.run(["why", "--then", "3", "--p", "2"], pipeline))
+    yield "pipeline.boc: cowns --p 2", fault_of(done(PIPELINE_FOR_TWO.encode()), program.run(["cowns", "--p", "2"], pipeline))

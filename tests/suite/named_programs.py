@@ -14,6 +14,9 @@ SEED = 20261127
 PROGRAMS = 500
 MOST_TRIED = 100
 
+# Runs of more rows are not judged for workers here: the plain model looks at each pair of rows.
+MOST_JUDGED = 40
+
 
 def cases(program):
     for name in sorted(os.listdir(program.examples)):
@@ -54,11 +57,16 @@ class Tested:
         yield f"{name}: check --program", fault_of(done(b"ok %d\n" % len(rows)), self.program.run_beside(["check"], "--program", self.text, record))
         yield f"{name}: values --record", fault_of(done(run.values_text(), noted), self.program.run_beside(["values"], "--record", record, self.text))
         for words, told in [(["why"], why.why(rows, names)), (["why", "--all"], why.why(rows, names, True)),
-                            (["cowns"], cowns_text(record.decode(), names.cowns).encode())]:
+                            (["cowns"], cowns_text(record.decode(), names).encode())]:
             command = " ".join(words)
             yield f"{name}: {command} --record", fault_of(done(told, noted), self.program.run_beside(words, "--record", record, self.text))
             if is_by_one:
                 yield command, fault_of(done(told, noted), self.program.run(words, self.text))
+        if not is_by_one or len(rows) > MOST_JUDGED:
+            return
+        for words, told in [(["why", "-p", "2"], why.why(rows, names, workers=2)), (["why", "--then", "3"], why.steps(rows, names, 3)),
+                            (["cowns", "-p", "3"], cowns_text(record.decode(), names, workers=3).encode())]:
+            yield f"{name}: {' '.join(words)} --record", fault_of(done(told, noted), self.program.run_beside(words, "--record", record, self.text))
 
     def changed(self, record):
         """A record with a change at one place, such that it is the record of some run still."""

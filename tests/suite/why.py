@@ -1,13 +1,12 @@
 """What `why` tells, computed plainly from the rows of a record and their names, and worked examples of it."""
 import random
 
-from . import model
+from . import advice, model
 from .plans import random_rows, record_of
 from .records import fan, fan_text, tower, tower_text
 from .running import done, fault_of, refused
 
 MOST_LISTED = 20
-MOST_TRIED = 20
 LEAST_FOLDED = 4
 
 
@@ -53,7 +52,7 @@ def links_of(rows, names, steps):
 def link_name(names, link):
     if link[0] == "spawn":
         return "spawn by " + names.def_names[link[1]]
-    return " and ".join(names.cowns[cown] for cown in link[1]) if link[0] == "cowns" else "end"
+    return " and ".join(names.cowns[cown] for cown in link[1]) if link[0] == "cowns" else link[0]
 
 
 def then_text(names, link, after):
@@ -111,39 +110,6 @@ def listed(entries):
     return lines + ([[f"  {len(entries) - MOST_LISTED} more", "", ""]] if len(entries) > MOST_LISTED else [])
 
 
-def halved(rows, names, def_of):
-    for row in range(len(rows)):
-        if names.defs[row] == def_of:
-            rows = model.scaled(rows, row, 1, 2)
-    return rows
-
-
-def freed(rows, names, family):
-    for cown, own in enumerate(names.families):
-        if own == family:
-            rows = model.without(rows, cown)
-    return rows
-
-
-def spawned_early(rows, names, def_of):
-    rows, last = list(rows), [0] * len(rows)
-    for number, row in enumerate(rows[1:], start=1):
-        if names.defs[row.parent] == def_of:
-            rows[number] = row._replace(offset=last[row.parent] + 1)
-        last[row.parent] = rows[number].offset
-    return rows
-
-
-def candidates(rows, names, by_def, by_link, links):
-    """What is tried, each with the span that is left, best first, and as it was tried where they leave as much."""
-    tried = [(names.def_names[key] + " at 1/2", halved(rows, names, key)) for key, _, _ in by_def[:MOST_TRIED]]
-    handed = sorted({names.families[cown] for link in links if link[0] == "cowns" for cown in link[1]})
-    tried += [("without " + names.family_names[family], freed(rows, names, family)) for family in handed]
-    spawners = [links[place][1] for place, _, _ in by_link if links[place][0] == "spawn"]
-    tried += [("early spawns by " + names.def_names[def_of], spawned_early(rows, names, def_of)) for def_of in spawners[:MOST_TRIED]]
-    return sorted(((name, model.span(left)) for name, left in tried), key=lambda candidate: candidate[1])
-
-
 def bound_line(spawns, held, names, shared=False):
     """The tick before which no order of the cowns ends: of each cown the ticks of the rows that write it, and the least start of one by the spawns alone."""
     untils = [ticks + first for ticks, first in held]
@@ -165,25 +131,60 @@ def least_line(rows, names):
     return bound_line(model.span(alone), held, names.cowns)
 
 
-def why(rows, names, every=False):
+def share_lines(names, by_def, by_link, heads):
+    """The shares of a chain by def, and beside them those by link, under these heads."""
+    left = listed([(names.def_names[key], ticks, count) for key, ticks, count in by_def])
+    right = listed([(link_name(names, link), ticks, count) for link, ticks, count in by_link])
+    most = max(len(left), len(right))
+    pairs = zip(left + [["", "", ""]] * (most - len(left)), right + [["", "", ""]] * (most - len(right)))
+    return table("lrrllrr", [[heads[0], "ticks", "rows", "    ", heads[1], "ticks", "links"]] + [one + [""] + other for one, other in pairs])
+
+
+def why(rows, names, every=False, workers=None):
     """The text that `why` writes for these rows, with exclusive cowns."""
     starts = model.earliest_starts(rows)
-    span = max(model.ends_of(rows, starts))
     steps = steps_of(rows, starts)
     links = links_of(rows, names, steps)
     by_def = shares([names.defs[step[0]] for step in steps], steps)
-    by_link = shares([links.index(link) for link in links], steps)
-    lines = [f"rows {len(rows)}   work {sum(row.ticks for row in rows)}   span {span}", "", "chain"]
-    lines += table("lrrrll", chain_lines(rows, starts, names, steps, links, every)) + [""]
-    left = listed([(names.def_names[key], ticks, count) for key, ticks, count in by_def])
-    right = listed([(link_name(names, links[place]), ticks, count) for place, ticks, count in by_link])
-    most = max(len(left), len(right))
-    pairs = zip(left + [["", "", ""]] * (most - len(left)), right + [["", "", ""]] * (most - len(right)))
-    heads = [["chain by def", "ticks", "rows", "    ", "chain by link", "ticks", "links"]]
-    lines += table("lrrllrr", heads + [one + [""] + other for one, other in pairs])
-    tried = [(name, left, span - left) for name, left in candidates(rows, names, by_def, by_link, links)]
-    lines += table("lrr", [["candidates", "span", "less"]] + listed(tried))
-    return model.text(lines + [least_line(rows, names)])
+    by_link = [(links[place], ticks, count) for place, ticks, count in shares([links.index(link) for link in links], steps)]
+    lines = [f"rows {len(rows)}   work {sum(row.ticks for row in rows)}   span {max(model.ends_of(rows, starts))}"]
+    seen = advice.seen(rows)
+    chains = [advice.earliest_chain(seen, names)]
+    if workers:
+        chains.append(advice.greedy_chain(seen, names, workers))
+        lines.append(advice.head_line(seen, workers, chains[1].end))
+    lines += ["", "chain"] + table("lrrrll", chain_lines(rows, starts, names, steps, links, every)) + [""]
+    lines += share_lines(names, by_def, by_link, ("chain by def", "chain by link"))
+    if workers:
+        if chains[1].steps != chains[0].steps:
+            lines += [""] + share_lines(names, chains[1].by_def, chains[1].by_link, (f"{advice.count_text(workers)} by def", "by link"))
+        lines.append("")
+    lines += advice.advice_lines(seen, names, chains, workers) + [least_line(rows, names)] + advice.order_lines(seen, names)
+    return model.text(lines + ([advice.verdict_line(seen, workers, chains[1].end)] if workers else []))
+
+
+def steps(rows, names, most, workers=None):
+    """The text that `why --then` writes."""
+    return steps_of_seen(advice.seen(rows), names, most, workers)
+
+
+def steps_of_seen(rows, names, most, workers=None):
+    """The same of rows as plans see them."""
+    return model.text(advice.steps_text(rows, names, most, workers))
+
+
+def fault_of_advice(answer, rows, names, workers):
+    """What is wrong with what follows the chain and its shares for a number of workers, of rows as plans see them."""
+    end = advice.greedy_end(rows, workers)
+    chains = [advice.earliest_chain(rows, names), advice.greedy_chain(rows, names, workers)]
+    parts = [[advice.head_line(rows, workers, end)], advice.advice_lines(rows, names, chains, workers),
+             advice.order_lines(rows, names) + [advice.verdict_line(rows, workers, end)]]
+    lines = answer.output.decode().splitlines()
+    if lines[1:2] != parts[0] or lines[-len(parts[2]):] != parts[2]:
+        return f"it says {lines[1:2]} and {lines[-2:]} in place of {parts[0]} and {parts[2]}"
+    begun = lines.index(parts[1][0]) if parts[1][0] in lines else 0
+    told = lines[begun:begun + len(parts[1])]
+    return None if told == parts[1] else f"{told} in place of {parts[1]}"
 
 
 # What is told of runs by one thread, in the names of their programs.
@@ -210,6 +211,9 @@ candidates              span  less
   main at 1/2              8     1
   without a                8     1
   early spawns by main     8     1
+several cowns at once  without
+  a and b                    6
+  every cown                 6
 lower bound for any order: 8 (b is held for 5 ticks, from tick 3 on)
 """
 
@@ -246,6 +250,10 @@ candidates               span  less
   early spawns by main    275     4
   main at 1/2             277     2
   without parser          277     2
+several cowns at once            without
+  parser and pricer                  202
+  parser and checker and pricer      119
+  every cown                         109
 lower bound for any order: 261 (pricer is held for 228 ticks, from tick 33 on)
 """
 
@@ -274,15 +282,20 @@ chain by def  ticks  rows        chain by link           ticks  links
                                    acct[7] and log          30      1
                                    acct[2]                  30      1
                                    spawn by main            11      1
-candidates              span  less
-  without log            437   390
-  transfer at 1/2        483   344
-  without acct[*]        727   100
-  audit at 1/2           775    52
-  without total          791    36
-  early spawns by main   817    10
-  main at 1/2            822     5
+candidates                 span  less
+  without acct[*] and log   220   607
+  without log               437   390
+  transfer at 1/2           483   344
+  without acct[*]           727   100
+  audit at 1/2              775    52
+  without total             791    36
+  early spawns by main      817    10
+  main at 1/2               822     5
+several cowns at once        without
+  acct[*] and log and total      189
+  every cown                     189
 lower bound for any order: 727 (log is held for 716 ticks, from tick 11 on)
+a better order ends at 727: start whatever can start; it differs first at acct[2], where row 13, audit(; acct[0..5], total), comes before row 4, transfer(31; acct[7], acct[2], log)
 """
 
 # The meals hand on the count of all meals, each with another fork.
@@ -305,18 +318,63 @@ chain by def  ticks  rows        chain by link        ticks  links
                                    end                   45      1
                                    spawn by think        27      1
                                    spawn by main          5      1
-candidates               span  less
-  eat at 1/2              377   340
-  early spawns by think   691    26
-  think at 1/2            704    13
-  early spawns by main    713     4
-  main at 1/2             715     2
-  without fork[*]         717     0
-  without meals           717     0
+candidates                   span  less
+  without fork[*] and meals   235   482
+  eat at 1/2                  377   340
+  early spawns by think       691    26
+  think at 1/2                704    13
+  early spawns by main        713     4
+  main at 1/2                 715     2
+  without fork[*]             717     0
+  without meals               717     0
+several cowns at once  without
+  every cown               235
 lower bound for any order: 717 (meals is held for 685 ticks, from tick 32 on)
 """
 
 # The chain of the tree: some of the joins hand on, each something else, and some spawn the next one.
+TRANSFER_FOR_FOUR = """\
+rows 4   work 11   span 9
+4 workers   end 9   least 9   work/4 3   busy 30%
+
+chain
+  tick  ticks  row  behaviour      then
+     0      2    0  main           spawns row 1
+     2      2    1  add(5; a)      hands a to row 2
+     4      3    2  move(3; a, b)  hands b to row 3
+     7      2    3  add(1; b)      ends
+     9
+
+chain by def  ticks  rows        chain by link    ticks  links
+  add             4     2          b                  3      1
+  move            3     1          spawn by main      2      1
+  main            2     1          a                  2      1
+                                   end                2      1
+
+candidates for 4 workers  end  less  span  less
+  add at 1/2                7     2     7     2
+  without b                 7     2     7     2
+  move at 1/2               8     1     8     1
+  main at 1/2               8     1     8     1
+  without a                 8     1     8     1
+  early spawns by main      8     1     8     1
+several cowns at once  end without  without
+  a and b                        6        6
+  every cown                     6        6
+lower bound for any order: 8 (b is held for 5 ticks, from tick 3 on)
+chain: the critical path takes 9 of 9 ticks; more workers save nothing
+"""
+
+PIPELINE_STEPS = """\
+rows 37   work 609   span 279
+2 workers   end 352   least 305   work/2 305   busy 86%
+
+steps for 2 workers  end  less  span  less
+  1  price at 1/2    262    90   200    79
+  2  parse at 1/2    231    31   177    23
+  3  check at 1/2    200    31   147    30
+"""
+
 TREE_CHAIN = """\
 chain
   tick  ticks     row  behaviour  then
@@ -366,6 +424,8 @@ candidates              span  less
   main at 1/2             11     1
   set at 1/2              11     1
   early spawns by main    11     1
+several cowns at once  without
+  every cown                10
 lower bound for any order: 10 (their spawns take that long)
 """
 
@@ -409,6 +469,12 @@ def of_record(program, name, record):
     for every in (False, True):
         answer = program.run(["why"] + (["--all"] if every else []), record)
         yield f"{name}: why, {'every row' if every else 'folded'}", fault_of(done(why(rows, Names(len(rows), cowns), every)), answer)
+    for workers in (1, 3):
+        answer = program.run(["why", "--p", str(workers)], record)
+        yield f"{name}: why for {workers}", fault_of(done(why(rows, Names(len(rows), cowns), workers=workers)), answer)
+    for words, most, workers in [(["--then", "5"], 5, None), (["--then", "2", "--p", "2"], 2, 2)]:
+        told = steps(rows, Names(len(rows), cowns), most, workers)
+        yield f"{name}: why {' '.join(words)}", fault_of(done(told), program.run(["why", *words], record))
 
 
 def random_cases(program):

@@ -13,8 +13,8 @@ _boc_options() {
     whatif) echo -h --help --without --program --names -p --p --shared-reads --short --no-plan ;;
     curve) echo -h --help -p --p --shared-reads ;;
     sweep) echo -h --help --cowns -p --p --shared-reads --best --spawns ;;
-    why) echo -h --help -w --workers --seed --depth --timed --record --names -p --p --shared-reads --all --quiet ;;
-    cowns) echo -h --help -w --workers --seed --depth --timed --record --names --top --shared-reads --quiet ;;
+    why) echo -h --help -w --workers --seed --depth --timed --record --names -p --p --shared-reads --all --then --quiet ;;
+    cowns) echo -h --help -w --workers --seed --depth --timed --record --names -p --p --top --shared-reads --quiet ;;
     outcomes) echo -h --help --runs --seed -w --workers --depth ;;
     esac
 }
@@ -50,7 +50,7 @@ _boc() {
     if [[ $are_options ]]; then
         case $option in
         --record | --program | --names) _boc_files "$current" && return ;;
-        -w | --workers | --seed | --depth | --runs | -p | --p | --without | --best | --top) return ;;
+        -w | --workers | --seed | --depth | --runs | -p | --p | --without | --best | --top | --then) return ;;
         esac
     fi
     if [[ $current == -* && $are_options ]]; then

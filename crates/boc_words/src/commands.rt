@@ -245,8 +245,8 @@ Output:
       sets are chosen by the span.
   lower bound for any order: N (REASON)
       With the ticks and spawns of this run (which row spawns which, when and in
-      which order), no order of the rows on the cowns ends before N, even with a
-      worker for each row. The best order may end later. Candidates change
+      which order), no order of the rows on the cowns ends before N. That holds
+      for any number of workers. The best order may end later. Candidates change
       ticks, spawns or cowns, so they may end sooner. The reasons:
         COWN is held for H ticks, from tick T on
             Its rows take H ticks together, one at a time, and none can start

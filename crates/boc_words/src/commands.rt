@@ -353,6 +353,8 @@ Then come a lower bound for any order, a better order if one was found, and with
 --p what P workers take and what limits them, as in boc why; and the span with
 --shared-reads if that is smaller.
 
+With --p the note on the timed run may come, as in boc help why.
+
 Names are those of the program or of the file for --names, which boc help why
 describes. Without either, cowns have their numbers. -w, --seed, --depth and
 --timed have no effect on a run that comes from a record. With more threads, or

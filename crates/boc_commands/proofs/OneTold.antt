@@ -174,14 +174,6 @@ told_of_cowns rows hr names others same asked text other a b =
 
 -- ---- notes
 
-one_text_of_notes : (quiet : Bool) (rows : List Row) (names others : Names) → CallTheSame names others → (notes other : List ℕ)
-    → AreWanted quiet (λ told. told ≡ notes_of_rows (texts_of names.rows.items) rows) notes
-    → AreWanted quiet (λ told. told ≡ notes_of_rows (texts_of others.rows.items) rows) other → notes ≡ other
-one_text_of_notes true rows names others same notes other a b = a ∙ sym b
-one_text_of_notes false rows names others same notes other a b =
-    let text : notes_of_rows (texts_of names.rows.items) rows ≡ notes_of_rows (texts_of others.rows.items) rows = λ i. notes_of_rows (same.rows i) rows in
-    a ∙ text ∙ sym b
-
 one_text_of_why : (sharing : Sharing) (compared : Option ℕ) (input : List ℕ) (quiet : Bool) (rows : List Row) (names others : Names)
     → CallTheSame names others → (notes other : List ℕ) → AreWanted quiet (AreWhyNotes sharing compared input (texts_of names.rows.items) rows) notes
     → AreWanted quiet (AreWhyNotes sharing compared input (texts_of others.rows.items) rows) other → notes ≡ other
@@ -218,13 +210,15 @@ pub one_cowns_answer : (asked : AskedCowns) (file : Option RunFile) (bytes input
     (one : TellsCowns asked file bytes notes input output) (another : TellsCowns asked file bytes others input other)
     → one.answer.recorded ≡ another.answer.recorded → (notes ≡ others) × (output ≡ other)
 one_cowns_answer asked file bytes input notes output others other one another same =
+    let compared : Option ℕ = workers_compared asked.schedule asked.workers file in
     let a = one.answer in
     let b = another.answer in
     let named : IsNamedRun asked.schedule file bytes input b.recorded a.names =
     subst (λ (r : Recorded). IsNamedRun asked.schedule file bytes input r a.names) same a.named in
     let called : CallTheSame a.names b.names = one_named_run asked.schedule file bytes input b.recorded a.names b.names named b.named in (
-      one_text_of_notes asked.quiet b.recorded.rows a.names b.names called notes others
-          (subst (λ (r : Recorded). AreWanted asked.quiet (λ told. told ≡ notes_of_rows (texts_of a.names.rows.items) r.rows) notes) same one.noted)
+      one_text_of_why asked.sharing compared input asked.quiet b.recorded.rows a.names b.names called notes others
+          (subst (λ (r : Recorded). AreWanted asked.quiet (AreWhyNotes asked.sharing compared input (texts_of a.names.rows.items) r.rows) notes) same
+          one.noted)
           another.noted,
       told_of_cowns b.recorded.rows (rows_are b.recorded (run_is_record asked.schedule file bytes input b.recorded b.names b.named)) a.names b.names called
           asked output other (subst (λ (r : Recorded). AreTold r.rows a.names asked output) same a.told) b.told,

@@ -106,7 +106,8 @@ pub record TellsWhy (asked : AskedWhy) (file : Option RunFile) (bytes notes inpu
   pub noted : AreWanted asked.quiet (AreWhyNotes asked.sharing (workers_compared asked.schedule asked.workers file) input
       (texts_of answer.names.rows.items) answer.recorded.rows) notes
 
--- the cowns of a run, and the same notes on its rows
+-- the cowns of a run, and the same notes on its rows, by their names
 pub record TellsCowns (asked : AskedCowns) (file : Option RunFile) (bytes notes input output : Text) : Type 0 where
   pub answer : IsCownsAnswer asked file bytes input output
-  pub noted : AreWanted asked.quiet (λ told. told ≡ notes_of_rows (texts_of answer.names.rows.items) answer.recorded.rows) notes
+  pub noted : AreWanted asked.quiet (AreWhyNotes asked.sharing (workers_compared asked.schedule asked.workers file) input
+      (texts_of answer.names.rows.items) answer.recorded.rows) notes

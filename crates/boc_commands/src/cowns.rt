@@ -11,8 +11,9 @@ ghost use Rattle.boc_commands.specs.NamedRuns.{AreFew, IsOfNamedRun, IsShort, Re
 
 use crate::fault::Fault;
 use crate::named_run::{NamedRun, Origin, named_run, taken};
-use crate::notes::{Told, notes_on};
+use crate::notes::{Told, notes_beside};
 use crate::order::other_order;
+use crate::timed_note::other_run;
 use boc_advice_report::{ForWorkers, OtherOrder};
 use boc_cowns::{HotCowns, hot_cowns};
 use boc_cowns_report::{CownsTold, JudgedCown, JudgedTold, cowns_text, judged_cowns};
@@ -30,7 +31,7 @@ use std::thread::Threads;
 
 /// Reads a program, which it runs, or the text of a record, as its first word says, and writes how long each cown of the run is held, waited for and handed
 /// on, and the span without it, those first that are held longest. Below that is whether the spawns hold the run back, or the load of a cown, or order
-/// does. `bytes`, the notes and `progress` are as for `why`.
+/// does. `bytes`, the notes, with the one on the timed run, and `progress` are as for `why`.
 ///
 /// A program is refused as by `run`, a record as by `profile`, and a file as its kind is. Nothing is written unless the whole answer is ready. After a failing
 /// write a beginning of it went out. Plans are made in threads. The text of a record is taken into memory as a whole.
@@ -80,13 +81,14 @@ fn cowns_told<R: Threads + Wait + Sync, G: Gate>(
         (λ told. TellsCowns asked file.now bytes.items told.notes.items text.items told.text.items × IsShort text.items)
         (IsOfNamedRun G.always_on asked.schedule file.now bytes.items text.items) }
 {
+    let other = other_run(alloc, asked.schedule, asked.workers, file, &text)?;
     let origin = Origin {
         schedule: asked.schedule,
         file,
         bytes,
     };
     let run = named_run(rt, alloc, text, origin, gate, progress)?;
-    let notes = notes_on(alloc, asked.quiet, &run.rows, &run.names.rows)?;
+    let notes = notes_beside(alloc, asked.quiet, asked.sharing, &run, &other, progress)?;
     let text = told(rt, alloc, &run, asked, progress)?;
     Ok(Told { text, notes })
 }

@@ -1,17 +1,20 @@
 // What is noted of behaviours that ended by a fault.
 
-ghost use Rattle.std.specs.Prelude.{◌≡◌, ◌∷◌, ◌++◌, ◌<◌, ◌^◌, codes, length, map, IfOk, OnOk};
+ghost use Rattle.std.specs.Prelude.{◌≡◌, ◌∷◌, ◌++◌, ◌<◌, ◌^◌, ℕ, List, Option, codes, length, map, IfOk, OnOk};
 ghost use Rattle.boc_names.specs.Names.{texts_of};
 ghost use Rattle.boc_runs.specs.Records.{IsRecordOf};
 ghost use Rattle.boc_runs.specs.Run.{config_of};
 ghost use Rattle.boc_eval.specs.Instances.{AreRight};
 ghost use Rattle.boc_notes.specs.Notes.{note_of_row, notes_text};
-ghost use Rattle.boc_commands.specs.Notes.{AreWanted, notes_of_rows, run_names};
+ghost use Rattle.boc_commands.specs.Notes.{AreWanted, AreWhyNotes, notes_of_rows, run_names};
+ghost use Rattle.boc_commands.specs.TimedNotes.{IsOther};
 
-use crate::named_run::{called, names_of};
+use crate::named_run::{NamedRun, called, names_of};
+use crate::timed_note::{Other, timed_note_on};
 use boc_eval::ToldRow;
 use boc_names::{CownNames, def_names};
 use boc_notes::{faulted_rows, notes_on_rows, notes_on_told};
+use boc_plans::sharing::Sharing;
 use boc_program::program::Program;
 use boc_program::text::Name;
 use boc_progress::Progress;
@@ -94,4 +97,25 @@ pub(crate) fn notes_on_run(
     }
     let defs = called(alloc, defs)?;
     notes_on_faulted(alloc, program, &defs, recorded, told, &faulted, progress)
+}
+
+/// Returns the notes on a run, where they are wanted, with the one on the other run, if it is compared with one.
+pub(crate) fn notes_beside(
+    alloc: Global,
+    quiet: bool,
+    sharing: Sharing,
+    run: &NamedRun,
+    other: &Option<Other>,
+    progress: &mut dyn Progress,
+) -> Result<Vec<u8>, AllocError>
+    ensures { IfOk result (λ notes. (input : List ℕ) (compared : Option ℕ) → IsOther input compared other.now
+        → AreWanted quiet (AreWhyNotes sharing compared input (texts_of run.now.names.rows.items) run.now.rows) notes.items) }
+{
+    if quiet {
+        return Ok(Vec::new(alloc));
+    }
+    let mut notes = notes_on(alloc, false, &run.rows, &run.names.rows)?;
+    let note = timed_note_on(alloc, other, sharing, &run.rows, progress)?;
+    notes.extend_from_slice(&note)?;
+    Ok(notes)
 }

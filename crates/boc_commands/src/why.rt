@@ -6,22 +6,20 @@ ghost use Rattle.boc_program.specs.declared.limits.TheConstants.{MOST_COWNS, MOS
 ghost use Rattle.boc_remedies.specs.Questions.{asked as asked_by};
 ghost use Rattle.boc_commands.specs.Commands.{AnswersInput, Leaves, CountsSource, CountsSink};
 ghost use Rattle.boc_commands.specs.NamedRuns.{AreFew, IsOfNamedRun, IsShort, RefusesNamedRun};
-ghost use Rattle.boc_names.specs.Names.{texts_of};
-ghost use Rattle.boc_commands.specs.Notes.{AreWanted, AreWhyNotes, TellsWhy};
+ghost use Rattle.boc_commands.specs.Notes.{TellsWhy};
 ghost use Rattle.boc_commands.specs.TimedAnswers.{end_of_times};
 ghost use Rattle.boc_commands.specs.TimedNotes.{IsOther, workers_compared};
 ghost use Rattle.boc_commands.specs.WhyAnswers.{AreStepsTold, IsTold, IsWhyTold};
 
 use crate::fault::Fault;
 use crate::named_run::{NamedRun, Origin, named_run, taken};
-use crate::notes::{Told, notes_on};
+use crate::notes::{Told, notes_beside};
 use crate::order::other_order;
-use crate::timed_note::{Other, other_run, timed_note_on};
+use crate::timed_note::{Other, other_run};
 use boc_advice_report::{StepsTold, WhyTold, steps_text, why_text};
 use boc_busy::TimedRows;
 use boc_names::Names;
 use boc_order::work;
-use boc_plans::sharing::Sharing;
 use boc_program::count::Workers;
 use boc_progress::Progress;
 use boc_remedies::{Question, advise, ends_of, steps_of};
@@ -96,7 +94,7 @@ fn why_told<R: Threads + Wait + Sync, G: Gate>(
         bytes,
     };
     let run = named_run(rt, alloc, text, origin, gate, progress)?;
-    let notes = why_notes(alloc, asked.quiet, asked.sharing, &run, &other, progress)?;
+    let notes = notes_beside(alloc, asked.quiet, asked.sharing, &run, &other, progress)?;
     let text = told(rt, alloc, &run, asked)?;
     Ok(Told { text, notes })
 }
@@ -111,27 +109,6 @@ fn other_asked(
     ensures { IfOk result (IsOther text.now (workers_compared asked.now.schedule asked.now.workers file.now)) }
 {
     other_run(alloc, asked.schedule, asked.workers, file, text)
-}
-
-// Returns the notes on a run, where they are wanted, with the one on the other run, if it is compared with one.
-fn why_notes(
-    alloc: Global,
-    quiet: bool,
-    sharing: Sharing,
-    run: &NamedRun,
-    other: &Option<Other>,
-    progress: &mut dyn Progress,
-) -> Result<Vec<u8>, AllocError>
-    ensures { IfOk result (λ notes. (input : List ℕ) (compared : Option ℕ) → IsOther input compared other.now
-        → AreWanted quiet (AreWhyNotes sharing compared input (texts_of run.now.names.rows.items) run.now.rows) notes.items) }
-{
-    if quiet {
-        return Ok(Vec::new(alloc));
-    }
-    let mut notes = notes_on(alloc, false, &run.rows, &run.names.rows)?;
-    let note = timed_note_on(alloc, other, sharing, &run.rows, progress)?;
-    notes.extend_from_slice(&note)?;
-    Ok(notes)
 }
 
 // Returns what is reported of why the rows of a run take as long as they do, in their names; or, where that is requested, of one change after another.

@@ -183,21 +183,23 @@ def note_on(plain, planned):
 
 
 def notes(program):
-    """The note of `why -p P` on the span of the timed run: the last line, and only of a program that one thread runs."""
+    """The note of `why -p P`, and of `cowns -p P`, on the span of the timed run: the last line, and only of a program that one thread runs."""
     tree, dinner = program.example("tree.boc"), program.example("handbook/dinner.boc")
-    for name, text, planned, span in (("the tree", tree, "4", 166), ("the tree", tree, "16", 158), ("the tree", tree, "64", 158), ("a dinner", dinner, "4", 523)):
-        line = f"boc: note: timed on {min(int(planned), 16)} workers the span is {span}: see --timed\n".encode()
-        answer = program.run(["why", "--p", planned], text)
-        yield f"the note on {name} for {planned}", fault_of(done(answer.output, line), answer)
     record = program.run(["run"], tree).output
-    for words in (["--p", "4", "--quiet"], ["--p", "4", "--workers", "2"], ["--p", "4", "--seed", "1"], ["--p", "4", "--timed"], [], ["--p", "1"]):
-        answer = program.run(["why", *words], tree)
-        yield f"no note with {words}", None if b"timed on" not in answer.notes and answer.status == 0 else f"it is {answer.notes}"
-    for name, answer in (("a record", program.run(["why", "--p", "4"], record)), ("--record", program.run_beside(["why", "--p", "4"], "--record", record, tree))):
-        yield f"no note with {name}", fault_of(done(answer.output, b""), answer)
+    for command in ("why", "cowns"):
+        for name, text, planned, span in (("the tree", tree, "4", 166), ("the tree", tree, "16", 158), ("the tree", tree, "64", 158), ("a dinner", dinner, "4", 523)):
+            line = f"boc: note: timed on {min(int(planned), 16)} workers the span is {span}: see --timed\n".encode()
+            answer = program.run([command, "--p", planned], text)
+            yield f"the note of {command} on {name} for {planned}", fault_of(done(answer.output, line), answer)
+        for words in (["--p", "4", "--quiet"], ["--p", "4", "--workers", "2"], ["--p", "4", "--seed", "1"], ["--p", "4", "--timed"], [], ["--p", "1"]):
+            answer = program.run([command, *words], tree)
+            yield f"no note of {command} with {words}", None if b"timed on" not in answer.notes and answer.status == 0 else f"it is {answer.notes}"
+        for name, answer in (("a record", program.run([command, "--p", "4"], record)),
+                             ("--record", program.run_beside([command, "--p", "4"], "--record", record, tree))):
+            yield f"no note of {command} with {name}", fault_of(done(answer.output, b""), answer)
     for number in range(NOTED):
         plain, text = random_program(random.Random(f"{SEED} note {number}"))
         others = program.run(["why"], text).notes
-        for planned in PLANNED:
-            answer = program.run(["why", "--p", str(planned)], text)
-            yield f"random program {number}, the note for {planned}", fault_of(done(answer.output, others + note_on(plain, planned)), answer)
+        for planned, command in ((it, command) for it in PLANNED for command in ("why", "cowns")):
+            answer = program.run([command, "--p", str(planned)], text)
+            yield f"random program {number}, the note of {command} for {planned}", fault_of(done(answer.output, others + note_on(plain, planned)), answer)

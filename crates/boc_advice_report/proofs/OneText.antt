@@ -20,7 +20,7 @@ use Rattle.boc_remedies.specs.declared.greedy_why.GreedyWhy.{GreedyWhy}
 use Rattle.boc_remedies.specs.declared.remedy.Remedy.{Remedy}
 use Rattle.boc_remedies.specs.declared.remedy.Remedy.TheVariants.{HalfCost, NoOrder, EarlySpawns}
 use Rattle.boc_remedies.specs.declared.together.Together.{Together}
-use Rattle.boc_remedies.specs.GreedyWhys.{IsSameChain, SayTheSameOfGreedy}
+use Rattle.boc_remedies.specs.GreedyWhys.{IsSameChain, SayTheSameIfAsked, SayTheSameOfGreedy}
 use Rattle.boc_advice_report.specs.declared.candidates.TheConstants.{MOST_LISTED}
 use Rattle.boc_advice_report.specs.declared.order.OtherOrder.{OtherOrder}
 use Rattle.boc_advice_report.specs.declared.steps.StepsTold.{StepsTold}
@@ -29,7 +29,7 @@ use Rattle.boc_advice_report.specs.declared.workers.ForWorkers.{ForWorkers}
 use Rattle.boc_advice_report.specs.AdviceTexts.{candidates_table, ends_texts, families_text, list_head, list_sides, more_families, more_line, no_ends}
 use Rattle.boc_advice_report.specs.AdviceTexts.{no_numbers, remedy_text, set_name, sets_table, together_head, together_sides, together_table, without_texts}
 use Rattle.boc_advice_report.specs.OrderTexts.{has_name, number_text, order_text, row_text}
-use Rattle.boc_advice_report.specs.Same.{AreSameGreedy, TellTheSame, TellTheSameSteps}
+use Rattle.boc_advice_report.specs.Same.{TellTheSame, TellTheSameSteps}
 use Rattle.boc_advice_report.specs.StepsTexts.{IsStepsText, no_further, steps_head, steps_lines, steps_table, table_lines}
 use Rattle.boc_advice_report.specs.StepsTexts as steps
 use Rattle.boc_advice_report.specs.WhyTold.{AreGreedyShares, AreSharesAsked, IsWhyText, advice_part, bounds_part, chain_part, order_line, shares_title}
@@ -42,21 +42,21 @@ workers_same : (why other : Why) (greedy another : GreedyWhy) → SayTheSame why
     → workers_of why greedy ≡ workers_of other another
 workers_same why other greedy another alike agree = λ i. record { p = agree.p i; work = alike.work i; span = alike.span i; end = agree.end i }
 
-workers_line_same : (why other : Why) (greedy another : Option GreedyWhy) → SayTheSame why other → AreSameGreedy greedy another
+workers_line_same : (why other : Why) (greedy another : Option GreedyWhy) → SayTheSame why other → SayTheSameIfAsked greedy another
     → workers_line why greedy ≡ workers_line other another
 workers_line_same why other None None alike agree = refl
 workers_line_same why other None (Some b) alike agree = absurd agree
 workers_line_same why other (Some a) None alike agree = absurd agree
 workers_line_same why other (Some a) (Some b) alike agree = ap workers_text (workers_same why other a b alike agree)
 
-verdict_line_same : (why other : Why) (greedy another : Option GreedyWhy) → SayTheSame why other → AreSameGreedy greedy another
+verdict_line_same : (why other : Why) (greedy another : Option GreedyWhy) → SayTheSame why other → SayTheSameIfAsked greedy another
     → verdict_line why greedy ≡ verdict_line other another
 verdict_line_same why other None None alike agree = refl
 verdict_line_same why other None (Some b) alike agree = absurd agree
 verdict_line_same why other (Some a) None alike agree = absurd agree
 verdict_line_same why other (Some a) (Some b) alike agree = ap verdict_text (workers_same why other a b alike agree)
 
-p_same : (greedy another : Option GreedyWhy) → AreSameGreedy greedy another
+p_same : (greedy another : Option GreedyWhy) → SayTheSameIfAsked greedy another
     → option_map (λ (g : GreedyWhy). g.p) greedy ≡ option_map (λ (g : GreedyWhy). g.p) another
 p_same None None agree = refl
 p_same None (Some b) agree = absurd agree
@@ -134,7 +134,7 @@ module _ (a b : Names) (same : CallTheSame a b) where
         | inr apart ↦ x.another apart ∙ shares_told_same greedy another agree ∙ sym (y.another (λ h. apart (back h)))
       ]
 
-  asked_same : (why other : Why) (greedy another : Option GreedyWhy) (text told : Text) → SayTheSame why other → AreSameGreedy greedy another
+  asked_same : (why other : Why) (greedy another : Option GreedyWhy) (text told : Text) → SayTheSame why other → SayTheSameIfAsked greedy another
       → AreSharesAsked a why greedy text → AreSharesAsked b other another told → text ≡ told
   asked_same why other None None text told alike agree x y = x ∙ sym y
   asked_same why other None (Some g) text told alike agree x y = absurd agree

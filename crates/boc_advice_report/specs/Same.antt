@@ -1,17 +1,10 @@
 -- When two reports tell the same.
-use Rattle.std.specs.Prelude.{◌≡◌, Option, Some, None}
+use Rattle.std.specs.Prelude.{◌≡◌}
 use Rattle.boc_why.specs.Why.{SayTheSame}
-use Rattle.boc_remedies.specs.declared.greedy_why.GreedyWhy.{GreedyWhy}
 use Rattle.boc_remedies.specs.declared.advice.Advice.{Advice}
-use Rattle.boc_remedies.specs.GreedyWhys.{SayTheSameOfGreedy}
+use Rattle.boc_remedies.specs.GreedyWhys.{SayTheSameIfAsked}
 use Rattle.boc_advice_report.specs.declared.steps.StepsTold.{StepsTold}
 use Rattle.boc_advice_report.specs.declared.told.WhyTold.{WhyTold}
-
--- the same is told of a greedy plan, or of none in both
-abbrev pub AreSameGreedy : Option GreedyWhy → Option GreedyWhy → Type 0
-AreSameGreedy None None = Unit {0}
-AreSameGreedy (Some why) (Some other) = SayTheSameOfGreedy why other
-AreSameGreedy why other = ⊥
 
 -- two advices say the same
 pub record AdviseTheSame (advice other : Advice) : Type 0 where
@@ -22,7 +15,7 @@ pub record AdviseTheSame (advice other : Advice) : Type 0 where
 -- two reports tell the same
 pub record TellTheSame (told other : WhyTold) : Type 0 where
   pub why : SayTheSame told.why.now other.why.now
-  pub greedy : AreSameGreedy told.greedy.now other.greedy.now
+  pub greedy : SayTheSameIfAsked told.greedy.now other.greedy.now
   pub advice : AdviseTheSame told.advice.now other.advice.now
   pub order : told.order ≡ other.order
   pub timed : told.timed ≡ other.timed

@@ -4,12 +4,11 @@ use Rattle.std.proofs.lemmas.List.{ext_get_or}
 use Rattle.std.proofs.lemmas.Option.{slice_get-get_or}
 use Rattle.boc_runs.specs.declared.rows.Row.{Row}
 use Rattle.boc_runs.specs.Rows.{IsRows}
-use Rattle.boc_plans.specs.Plans.{IsEnd}
 use Rattle.boc_plans.specs.Seen.{seen}
 use Rattle.boc_plans.specs.Sweeps.{IsGreedyEnd}
 use Rattle.boc_plans.proofs.Seeing.{rows_seen}
-use Rattle.boc_order.proofs.Alone.{one_end, one_span}
-use Rattle.boc_greedy.proofs.Alone.{one_greedy_plan}
+use Rattle.boc_order.proofs.Alone.{one_span}
+use Rattle.boc_greedy.proofs.Curving.{one_greedy_end}
 use Rattle.boc_why.specs.declared.causes.Cause.TheVariants as causes
 use Rattle.boc_why.proofs.OneCause.{one_with}
 use Rattle.boc_remedies.specs.declared.ends.Ends.{Ends}
@@ -20,11 +19,6 @@ use Rattle.boc_remedies.specs.Ends.{AreAllEnds, AreEnds, AreEndsAfter, IsEndFor}
 use Rattle.boc_remedies.specs.Remedies.{AreRowsAfter, AreRowsWith}
 
 -- ---- rows as they are
-
-one_greedy_end : (rows : List Row) → IsRows rows → (p end other : ℕ) → IsGreedyEnd rows p end → IsGreedyEnd rows p other → end ≡ other
-one_greedy_end rows hr p end other a b =
-    let same = one_greedy_plan rows hr p a.plan a.workers b.plan b.workers a.greedy b.greedy in
-    one_end rows b.plan end other (subst (λ (plan : List ℕ). IsEnd rows plan end) same.0 a.ends) b.ends
 
 one_end_for : (rows : List Row) → IsRows rows → (workers greedy other : Option ℕ) → IsEndFor rows workers greedy → IsEndFor rows workers other
     → greedy ≡ other

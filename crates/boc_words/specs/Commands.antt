@@ -131,8 +131,11 @@ signature_of kinds.Values = (codes "values", repeated record_file ∷ quiet_flag
 signature_of kinds.Check = (codes "check", repeated program_file ∷ input_operand ∷ [])
 signature_of kinds.Run =
     (codes "run", number runners_option ∷ number seed_option ∷ number depth_option ∷ timed_flag ∷ quiet_flag ∷ input_operand ∷ [])
-signature_of kinds.Profile =
-    (codes "profile", number workers_option ∷ sharing_flag ∷ no_plan_flag ∷ quiet_flag ∷ input_operand ∷ [])
+signature_of kinds.Profile = (
+  codes "profile",
+  number runners_option ∷ number seed_option ∷ number depth_option ∷ timed_flag ∷ number workers_option ∷ sharing_flag ∷ repeated record_file
+      ∷ no_plan_flag ∷ quiet_flag ∷ input_operand ∷ [],
+)
 signature_of kinds.Time = (
   codes "time",
   number runners_option ∷ number seed_option ∷ number depth_option ∷ timed_flag ∷ number workers_option ∷ sharing_flag ∷ no_plan_flag ∷ quiet_flag
@@ -140,12 +143,19 @@ signature_of kinds.Time = (
 )
 signature_of kinds.WhatIf = (
   codes "whatif",
-  number workers_option ∷ sharing_flag ∷ without_option ∷ repeated program_file ∷ repeated names_file ∷ short_flag ∷ no_plan_flag
-      ∷ edits_operands ∷ [],
+  number runners_option ∷ number seed_option ∷ number depth_option ∷ timed_flag ∷ number workers_option ∷ sharing_flag ∷ without_option
+      ∷ repeated record_file ∷ repeated program_file ∷ repeated names_file ∷ short_flag ∷ no_plan_flag ∷ edits_operands ∷ [],
 )
-signature_of kinds.Curve = (codes "curve", number workers_option ∷ sharing_flag ∷ input_operand ∷ [])
-signature_of kinds.Sweep =
-    (codes "sweep", number workers_option ∷ cowns_flag ∷ spawns_flag ∷ sharing_flag ∷ number best_option ∷ input_operand ∷ [])
+signature_of kinds.Curve = (
+  codes "curve",
+  number runners_option ∷ number seed_option ∷ number depth_option ∷ timed_flag ∷ number workers_option ∷ sharing_flag ∷ repeated record_file
+      ∷ input_operand ∷ [],
+)
+signature_of kinds.Sweep = (
+  codes "sweep",
+  number runners_option ∷ number seed_option ∷ number depth_option ∷ timed_flag ∷ number workers_option ∷ cowns_flag ∷ spawns_flag ∷ sharing_flag
+      ∷ repeated record_file ∷ repeated names_file ∷ number best_option ∷ input_operand ∷ [],
+)
 signature_of kinds.Why = (
   codes "why",
   number runners_option ∷ number seed_option ∷ number depth_option ∷ timed_flag ∷ number workers_option ∷ sharing_flag ∷ repeated record_file
@@ -163,7 +173,10 @@ signature_of kinds.Outcomes =
 abbrev pub files_of : Kind → List Text
 files_of kinds.Values = record_file ∷ []
 files_of kinds.Check = program_file ∷ []
-files_of kinds.WhatIf = program_file ∷ names_file ∷ []
+files_of kinds.Profile = record_file ∷ []
+files_of kinds.WhatIf = program_file ∷ record_file ∷ names_file ∷ []
+files_of kinds.Curve = record_file ∷ []
+files_of kinds.Sweep = record_file ∷ names_file ∷ []
 files_of kinds.Why = record_file ∷ names_file ∷ []
 files_of kinds.Cowns = record_file ∷ names_file ∷ []
 files_of _ = []

@@ -31,12 +31,15 @@ use Rattle.boc_words.specs.EditWords.{IsEditWord, IsWritable, edit_word, is_edit
 use Rattle.boc_words.specs.declared.asked.AskedCown.{AskedCown}
 use Rattle.boc_words.specs.declared.asked.AskedCown.TheVariants as cowns
 use Rattle.boc_words.specs.declared.asked.AskedCowns.{AskedCowns}
+use Rattle.boc_words.specs.declared.asked.AskedCurve.{AskedCurve}
 use Rattle.boc_words.specs.declared.asked.AskedDraws.{AskedDraws}
 use Rattle.boc_words.specs.declared.asked.AskedEdit.{AskedEdit}
 use Rattle.boc_words.specs.declared.asked.AskedPlans.{AskedPlans}
+use Rattle.boc_words.specs.declared.asked.AskedProfile.{AskedProfile}
+use Rattle.boc_words.specs.declared.asked.AskedSweep.{AskedSweep}
 use Rattle.boc_words.specs.declared.asked.AskedWhy.{AskedWhy}
-use Rattle.boc_words.specs.declared.asked.NamesFrom.{NamesFrom}
-use Rattle.boc_words.specs.declared.asked.NamesFrom.TheVariants as named
+use Rattle.boc_words.specs.declared.asked.WhatIfFile.{WhatIfFile}
+use Rattle.boc_words.specs.declared.asked.WhatIfFile.TheVariants as supposed
 use Rattle.boc_words.specs.declared.asked.RunFile.{RunFile}
 use Rattle.boc_words.specs.declared.asked.RunFile.TheVariants as files
 use Rattle.boc_words.specs.declared.schedule.Schedule.{Schedule}
@@ -204,11 +207,15 @@ IsRunFile rows None = GivesFile rows record_file None × GivesFile rows names_fi
 IsRunFile rows (Some (files.Record path)) = GivesFile rows record_file (Some path) × GivesFile rows names_file None
 IsRunFile rows (Some (files.Names path)) = GivesFile rows record_file None × GivesFile rows names_file (Some path)
 
--- no file was given, or the one with the program of the record, or the one with the names
-abbrev pub AreNamesFrom : List Row → Option NamesFrom → Type 0
-AreNamesFrom rows None = GivesFile rows program_file None × GivesFile rows names_file None
-AreNamesFrom rows (Some (named.Program path)) = GivesFile rows program_file (Some path) × GivesFile rows names_file None
-AreNamesFrom rows (Some (named.Names path)) = GivesFile rows program_file None × GivesFile rows names_file (Some path)
+-- no file was given, or the one with the program of the record, or the one with the record of the run, or the one with the names
+abbrev pub IsWhatIfFile : List Row → Option WhatIfFile → Type 0
+IsWhatIfFile rows None = GivesFile rows program_file None × GivesFile rows record_file None × GivesFile rows names_file None
+IsWhatIfFile rows (Some (supposed.Program path)) =
+    GivesFile rows program_file (Some path) × GivesFile rows record_file None × GivesFile rows names_file None
+IsWhatIfFile rows (Some (supposed.Record path)) =
+    GivesFile rows program_file None × GivesFile rows record_file (Some path) × GivesFile rows names_file None
+IsWhatIfFile rows (Some (supposed.Names path)) =
+    GivesFile rows program_file None × GivesFile rows record_file None × GivesFile rows names_file (Some path)
 
 -- how many files were given for these options
 abbrev pub files_given : List Row → List Text → ℕ
@@ -232,7 +239,21 @@ IsUnplanned rows false = IsUnset rows (codes "no-plan")
 abbrev pub ArePlans : List Row → AskedPlans → Type 0
 ArePlans rows plans = AreWorkers rows plans.workers × IsUnplanned rows plans.unplanned
 
--- this was asked of `why`
+-- this was asked of `profile`
+abbrev pub AsksProfile : List Row → AskedProfile → Type 0
+AsksProfile rows asked =
+    IsSchedule rows asked.schedule × ArePlans rows asked.plans × AreShared rows asked.sharing × IsQuiet rows asked.quiet
+
+-- this of `curve`
+abbrev pub AsksCurve : List Row → AskedCurve → Type 0
+AsksCurve rows asked = IsSchedule rows asked.schedule × AreUpTo rows asked.most × AreShared rows asked.sharing
+
+-- this of `sweep`
+abbrev pub AsksSweep : List Row → AskedSweep → Type 0
+AsksSweep rows asked =
+    IsSchedule rows asked.schedule × IsOver rows asked.over × AreShared rows asked.sharing × GivesNumber best_option rows asked.best
+
+-- this of `why`
 abbrev pub AsksWhy : List Row → AskedWhy → Type 0
 AsksWhy rows asked =
     IsSchedule rows asked.schedule × AreWorkers rows asked.workers × AreShared rows asked.sharing × IsAll rows asked.all
@@ -362,16 +383,14 @@ abbrev pub Asks : Kind → List Row → Command → Type 0
 Asks kind rows (commands.Values record_path quiet) = (kind ≡ called.Values) × GivesFile rows record_file record_path × IsQuiet rows quiet
 Asks kind rows (commands.Check program_path) = (kind ≡ called.Check) × GivesFile rows program_file program_path
 Asks kind rows (commands.Run schedule quiet) = (kind ≡ called.Run) × IsSchedule rows schedule × IsQuiet rows quiet
-Asks kind rows (commands.Profile plans sharing quiet) =
-    (kind ≡ called.Profile) × ArePlans rows plans × AreShared rows sharing × IsQuiet rows quiet
+Asks kind rows (commands.Profile asked record_path) = (kind ≡ called.Profile) × AsksProfile rows asked × GivesFile rows record_file record_path
 Asks kind rows (commands.Time schedule plans sharing quiet) =
     (kind ≡ called.Time) × IsSchedule rows schedule × ArePlans rows plans × AreShared rows sharing × IsQuiet rows quiet
-Asks kind rows (commands.WhatIf cowns edits plans sharing names short) =
-    (kind ≡ called.WhatIf) × AreCowns rows cowns.items × AreEdits rows edits.items × ArePlans rows plans × AreShared rows sharing
-    × AreNamesFrom rows names × IsShort rows short
-Asks kind rows (commands.Curve most sharing) = (kind ≡ called.Curve) × AreUpTo rows most × AreShared rows sharing
-Asks kind rows (commands.Sweep over sharing best) =
-    (kind ≡ called.Sweep) × IsOver rows over × AreShared rows sharing × GivesNumber best_option rows best
+Asks kind rows (commands.WhatIf schedule cowns edits plans sharing file short) =
+    (kind ≡ called.WhatIf) × IsSchedule rows schedule × AreCowns rows cowns.items × AreEdits rows edits.items × ArePlans rows plans
+    × AreShared rows sharing × IsWhatIfFile rows file × IsShort rows short
+Asks kind rows (commands.Curve asked record_path) = (kind ≡ called.Curve) × AsksCurve rows asked × GivesFile rows record_file record_path
+Asks kind rows (commands.Sweep asked file) = (kind ≡ called.Sweep) × AsksSweep rows asked × IsRunFile rows file
 Asks kind rows (commands.Why asked file) = (kind ≡ called.Why) × AsksWhy rows asked × IsRunFile rows file
 Asks kind rows (commands.Cowns asked file) = (kind ≡ called.Cowns) × AsksCowns rows asked × IsRunFile rows file
 Asks kind rows (commands.Outcomes draws) = (kind ≡ called.Outcomes) × AreDraws rows draws
@@ -397,7 +416,9 @@ HasNoNumbers named = (kind : Kind) × Names named kind (MissesNumber number_opti
 
 -- the command runs a program by a schedule
 abbrev pub HasSchedule : Kind → Type 0
-HasSchedule kind = (kind ≡ called.Run) ⊎ ((kind ≡ called.Time) ⊎ ((kind ≡ called.Why) ⊎ (kind ≡ called.Cowns)))
+HasSchedule kind =
+    (kind ≡ called.Run) ⊎ ((kind ≡ called.Profile) ⊎ ((kind ≡ called.Time) ⊎ ((kind ≡ called.WhatIf) ⊎ ((kind ≡ called.Curve)
+    ⊎ ((kind ≡ called.Sweep) ⊎ ((kind ≡ called.Why) ⊎ (kind ≡ called.Cowns)))))))
 
 -- more than one file is given for the input
 abbrev pub HasInputs : Kind → List Row → Type 0

@@ -273,7 +273,7 @@ pub(crate) const INPUT: Operands = Operands {
 pub(crate) const EDITS: Operands = Operands {
     id: "edits",
     value_name: "FILE|EDIT",
-    help: "Record; edits ROW=TICKS, ROW=K/D, DEF=K/D, ROW@OFFSET",
+    help: "Input; edits ROW=TICKS, ROW=K/D, DEF=K/D, ROW@OFFSET",
 };
 
 // The limit that the help of `--workers` names.

@@ -3,6 +3,7 @@
 use crate::schedule::Schedule;
 use boc_plans::edit::{Edit, Part};
 use boc_plans::sharing::Sharing;
+use boc_plans::sweep::Sweep;
 use boc_program::count::{Depth, Runners, Runs, Workers};
 use boc_program::short::CownNo;
 
@@ -31,6 +32,43 @@ pub struct AskedPlans {
     pub workers: Option<Workers>,
     /// Whether the rows of its plans are left out.
     pub unplanned: bool,
+}
+
+/// The options of `profile`, without the file given with its input.
+#[derive(Clone, Copy, Debug)]
+pub struct AskedProfile {
+    /// How the input is run, if it is a program.
+    pub schedule: Schedule,
+    /// Which plans the report has.
+    pub plans: AskedPlans,
+    /// How rows share cowns in plans.
+    pub sharing: Sharing,
+    /// Whether notes are left out.
+    pub quiet: bool,
+}
+
+/// The options of `curve`, without the file given with its input.
+#[derive(Clone, Copy, Debug)]
+pub struct AskedCurve {
+    /// How the input is run, if it is a program.
+    pub schedule: Schedule,
+    /// Up to how many workers it goes.
+    pub most: Workers,
+    /// How rows share cowns in plans.
+    pub sharing: Sharing,
+}
+
+/// The options of `sweep`, without the file given with its input.
+#[derive(Clone, Copy, Debug)]
+pub struct AskedSweep {
+    /// How the input is run, if it is a program.
+    pub schedule: Schedule,
+    /// What it changes, one after another.
+    pub over: Sweep,
+    /// How rows share cowns in plans.
+    pub sharing: Sharing,
+    /// How many of its best lines it prints, if not all.
+    pub best: Option<u32>,
 }
 
 /// The options of `why`, without the file given with its input.
@@ -74,11 +112,13 @@ pub enum RunFile {
     Names(String),
 }
 
-/// A file given with a record, from which its rows and cowns have names.
+/// A file given with the input of `whatif`.
 #[derive(Drop, Debug)]
-pub enum NamesFrom {
-    /// The program that the record is of.
+pub enum WhatIfFile {
+    /// The program that the record which comes in is of.
     Program(String),
+    /// The record of the run of the program that comes in.
+    Record(String),
     /// The names of rows and cowns.
     Names(String),
 }

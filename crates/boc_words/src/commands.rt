@@ -100,7 +100,10 @@ See also: boc help why, boc help check. Exit statuses: boc --help.";
 
 // What the lines of a report say.
 const REPORT_LINES: &str =
-    "`profile` reads the record of a run. `time` reads a program and runs it first.
+    "`profile` reads a program, which it runs, or the record of a run. The input is a
+program if its first word, after comments, is `cown`, `def` or `main`; all else
+is read as a record, which begins with `boc`. `time` reads a program and runs
+it. With --record, `profile` reads a program, and FILE has its run.
 
 Output:
   rows, work, span        Number of rows, their ticks together, and the end of
@@ -125,12 +128,18 @@ All numbers are ticks, except rows, workers and P. Rows and workers count from
 
 Examples:
   boc time -w 4 program.boc
-  boc run program.boc | boc profile --p 2 --no-plan
+  boc profile --p 2 --no-plan program.boc
+  boc run -w 4 program.boc | boc profile
 
 See also: boc help curve. Seeds: boc help run. Exit statuses: boc --help.";
 
 // What the lines of a curve say.
-const CURVE_LINES: &str = "The input is the record of a run.
+const CURVE_LINES: &str =
+    "The input is a program, which is run, or the record of a run. It is a program if
+its first word, after comments, is `cown`, `def` or `main`; all else is read as
+a record, which begins with `boc`. With --record the input is a program, and
+FILE has its run. On 2 or more threads a call may get another run than the one
+before; with --seed or --timed each gets the same.
 
 Output: `work`, the ticks of all rows; `span`, the end of the earliest plan;
 then a line P END LOW BOUND for each number of workers.
@@ -144,14 +153,21 @@ then a line P END LOW BOUND for each number of workers.
 All numbers are ticks, except P.
 
 Examples:
-  boc run program.boc | boc curve --p 8
+  boc curve --p 8 program.boc
+  boc run -w 4 program.boc | boc curve
 
-See also: boc help profile. Exit statuses: boc --help.";
+See also: boc help profile. Seeds and depth: boc help run. Exit statuses: boc
+--help.";
 
 // What the lines of a sweep say.
 const SWEEP_LINES: &str =
-    "The input is the record of a run. Each line changes one thing, and gives the end
-of the plan with only that change:
+    "The input is a program, which is run, or the record of a run. It is a program if
+its first word, after comments, is `cown`, `def` or `main`; all else is read as
+a record, which begins with `boc`. With --record the input is a program, and
+FILE has its run. On 2 or more threads a call may get another run than the one
+before; with --seed or --timed each gets the same.
+
+Each line changes one thing, and gives the end of the plan with that change:
   ROW END     The row takes as few ticks as it can: 1, or the offset of its last
               child (the tick at which the row spawns it). Its children are
               spawned at the same ticks as before. `boc whatif ROW=1/2` spawns
@@ -169,11 +185,16 @@ planned from nothing: the time grows with the square of the number of rows.
 With --best, the lines that end soonest come first, and have a third number, the
 gain: NUMBER END LESS.
 
-Examples:
-  boc run program.boc | boc sweep
-  boc run program.boc | boc sweep --cowns --best 3
+With --names, or for a program with --best, each line ends with what the row or
+the cown is called: NUMBER END NAME, or NUMBER END LESS NAME. boc help why has
+the lines of a file of names. Give only one of --record and --names.
 
-See also: boc help whatif, boc help why. Exit statuses: boc --help.";
+Examples:
+  boc sweep program.boc
+  boc sweep --cowns --best 3 program.boc
+
+See also: boc help whatif, boc help why. Seeds and depth: boc help run. Exit
+statuses: boc --help.";
 
 // What `why` prints.
 const WHY_LINES: &str =
@@ -369,9 +390,15 @@ statuses: boc --help.";
 
 // What `whatif` prints.
 const WHATIF_LINES: &str =
-    "An argument with neither = nor @ is FILE, the record of a run. Without one, or
-if it is -, the record comes from standard input. Every other argument is an
-edit. Edits are made in the order given; K and D are 1 to 1,000:
+    "An argument with neither = nor @ is FILE, a program, which is run, or the record
+of a run. Without one, or if it is -, the input is standard input. It is a
+program if its first word, after comments, is `cown`, `def` or `main`; all else
+is read as a record, which begins with `boc`. With --record the input is a
+program, and FILE has its run. On 2 or more threads a call may get another run
+than the one before; with --seed or --timed each gets the same.
+
+Every other argument is an edit. Edits are made in the order given; K and D are
+1 to 1,000:
   ROW=TICKS     Set the ticks of a row. Its children are spawned at the same
                 ticks as before. TICKS below 1, or below the offset of the row's
                 last child (the tick that spawns it), is refused as BelowSpawn.
@@ -383,26 +410,29 @@ edit. Edits are made in the order given; K and D are 1 to 1,000:
   ROW@OFFSET    Spawn a row at this tick of its parent.
 
 --without takes the number or the name of a cown, or the name of an array. What
-is left out imposes no order; all other orders stay as recorded.
+is left out imposes no order; all other orders stay as they are.
 
 Output: the lines of boc profile, or with --short:
   work, span    Before and after, and how the span changes. With --p also the
                 end of the greedy plan, before and after, and how it changes.
   chain         Ticks of the critical path by def, before and after
 
-Names of defs and cowns are those of the program in --program FILE, or those in
---names FILE. Without either, `row 2` is the def of row 2, and `cown 0` a cown.
-A number always means a row or a cown. Lines of a file of names:
+Names of defs and cowns are those of the program: the input, or for a record the
+one in --program FILE. Those in --names FILE replace them one by one. Without
+any, `row 2` is the def of row 2, and `cown 0` a cown. A number always means a
+row or a cown. Give only one of --record, --program and --names. Lines of a file
+of names:
   @ NUMBER NAME          The name of a cown. The first is 0, members of an array
                          count. x[0] and x[1] are members of an array x[*].
   = ROW NAME [ARG ..]    The name of a row; rows of one NAME are one def
 The file may have blank lines and lines that begin with #.
 
 Examples:
-  boc run program.boc | boc whatif --without 0
-  boc run program.boc | boc whatif --program program.boc --short transfer=1/2
+  boc whatif --short program.boc transfer=1/2
+  boc whatif --without 0 --program program.boc run.record
 
-See also: boc help why, boc help sweep. Exit statuses: boc --help.";
+See also: boc help why, boc help sweep. Seeds and depth: boc help run. Exit
+statuses: boc --help.";
 
 // What `outcomes` prints.
 const OUTCOMES_LINES: &str =
@@ -593,10 +623,15 @@ const RUN: Entry = Entry {
 
 const PROFILE: Entry = Entry {
     name: "profile",
-    about: about!("Print the work, span, chain and plan of a recorded run"),
+    about: about!("Print the work, span, chain and plan of a run"),
     takes: &[
+        Number(RUNNERS),
+        Number(SEED),
+        Number(DEPTH),
+        Flag(TIMED),
         Number(WORKERS),
         Flag(SHARING),
+        Repeated(RECORD),
         Flag(NO_PLAN),
         Flag(QUIET),
         Word(INPUT),
@@ -623,11 +658,16 @@ const TIME: Entry = Entry {
 
 const WHATIF: Entry = Entry {
     name: "whatif",
-    about: about!("Profile a recorded run with ticks, spawns or cowns changed"),
+    about: about!("Profile a run with ticks, spawns or cowns changed"),
     takes: &[
+        Number(RUNNERS),
+        Number(SEED),
+        Number(DEPTH),
+        Flag(TIMED),
         Number(WORKERS),
         Flag(SHARING),
         Repeated(WITHOUT),
+        Repeated(RECORD),
         Repeated(PROGRAM),
         Repeated(NAMES),
         Flag(SHORT),
@@ -640,7 +680,16 @@ const WHATIF: Entry = Entry {
 const CURVE: Entry = Entry {
     name: "curve",
     about: about!("Print when plans for 1, 2, 3 .. workers end"),
-    takes: &[Number(CURVE_WORKERS), Flag(SHARING), Word(INPUT)],
+    takes: &[
+        Number(RUNNERS),
+        Number(SEED),
+        Number(DEPTH),
+        Flag(TIMED),
+        Number(CURVE_WORKERS),
+        Flag(SHARING),
+        Repeated(RECORD),
+        Word(INPUT),
+    ],
     lines: CURVE_LINES,
 };
 
@@ -648,10 +697,16 @@ const SWEEP: Entry = Entry {
     name: "sweep",
     about: about!("Print the span with each row, cown or spawn changed in turn"),
     takes: &[
+        Number(RUNNERS),
+        Number(SEED),
+        Number(DEPTH),
+        Flag(TIMED),
         Number(SWEEP_WORKERS),
         Flag(SWEEP_COWNS),
         Flag(SWEEP_SPAWNS),
         Flag(SHARING),
+        Repeated(RECORD),
+        Repeated(NAMES),
         Number(BEST),
         Word(INPUT),
     ],

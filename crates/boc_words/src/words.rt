@@ -4,7 +4,7 @@ ghost use Rattle.boc_words.specs.Commands.{IsNumberOf, best_option, depth_option
 ghost use Rattle.boc_words.specs.Commands.{then_option, workers_option};
 ghost use Rattle.boc_words.specs.EditWords.{is_edit};
 ghost use Rattle.boc_words.specs.Tables.{option_of};
-ghost use Rattle.boc_words.specs.Words.{AreCowns, AreEdits, AreNamesFrom, AreRunners, AreShared, AreTaken, AreUpTo, AreWorkers, Asks};
+ghost use Rattle.boc_words.specs.Words.{AreCowns, AreEdits, IsWhatIfFile, AreRunners, AreShared, AreTaken, AreUpTo, AreWorkers, Asks};
 ghost use Rattle.boc_words.specs.Words.{GivesFile, GivesNumber, IsAsked, IsCownText, IsGiven, IsMisnamed, IsNamed, IsOfEditWords, IsOfError};
 ghost use Rattle.boc_words.specs.Words.{IsOfFiles, IsOfKind, IsOfNoText, IsOfNumber, IsOfSweep, IsOver, IsRefused, IsRunFile, IsTextOfKind, IsUnread};
 ghost use Rattle.boc_words.specs.Words.{AreDraws, AreEditsOf, GivesOr, IsOfDraws, IsOfInput, IsOfPaths, IsOfSchedule, IsOfWords, IsPathOf, IsSchedule};
@@ -23,7 +23,8 @@ use crate::arguments::{
     TOP, WITHOUT, WORKERS,
 };
 use crate::asked::{
-    AskedCown, AskedCowns, AskedDraws, AskedEdit, AskedPlans, AskedWhy, NamesFrom, RunFile,
+    AskedCown, AskedCowns, AskedCurve, AskedDraws, AskedEdit, AskedPlans, AskedProfile, AskedSweep,
+    AskedWhy, RunFile, WhatIfFile,
 };
 use crate::commands::{Kind, kind_of, parser};
 use crate::edit_word::{edit_of, is_edit};
@@ -63,11 +64,10 @@ pub enum Command {
         schedule: Schedule,
         quiet: bool,
     },
-    /// The report on the rows of a record that share cowns in this way, with these plans.
+    /// The report on the rows of a run of a program, or of a record, with these plans.
     Profile {
-        plans: AskedPlans,
-        sharing: Sharing,
-        quiet: bool,
+        asked: AskedProfile,
+        record: Option<String>,
     },
     /// The report on the rows of a run, as for `Run`, with these plans.
     Time {
@@ -76,27 +76,27 @@ pub enum Command {
         sharing: Sharing,
         quiet: bool,
     },
-    /// The report on the rows of a record without these cowns and after these edits, with these plans; or, where that is requested, what
-    /// they change in short.
+    /// The report on such rows without these cowns and after these edits, with these plans; or, where that is requested, what they
+    /// change in short.
     WhatIf {
+        schedule: Schedule,
         cowns: Vec<AskedCown>,
         edits: Vec<AskedEdit>,
         plans: AskedPlans,
         sharing: Sharing,
-        names: Option<NamesFrom>,
+        file: Option<WhatIfFile>,
         short: bool,
     },
-    /// The ends of the greedy plans for 1 worker up to this many, for the rows of a record.
+    /// The ends of the greedy plans for 1 worker up to this many, for such rows.
     Curve {
-        most: Workers,
-        sharing: Sharing,
+        asked: AskedCurve,
+        record: Option<String>,
     },
-    /// For each row, cown or spawn of a record, the span without what it costs; or the end of the greedy plan for the given number of workers,
-    /// where a number is given. Where this many best ones are asked for, these alone, with what each saves.
+    /// For each of such rows, their cowns or their spawns, the span without what it costs; or the end of the greedy plan for the given number of
+    /// workers, where a number is given. Where this many best ones are asked for, these alone, with what each saves.
     Sweep {
-        over: Sweep,
-        sharing: Sharing,
-        best: Option<u32>,
+        asked: AskedSweep,
+        file: Option<RunFile>,
     },
     /// Why the rows of a run of a program or of a record take as long as they do.
     Why {
@@ -207,9 +207,13 @@ fn asked(alloc: Global, kind: Kind, matches: &ArgMatches) -> Result<Command, Wor
             quiet: is_set(texts_at(matches, QUIET.id)),
         }),
         Kind::Profile => Ok(Command::Profile {
-            plans: plans_asked(alloc, matches)?,
-            sharing: sharing_asked(matches),
-            quiet: is_set(texts_at(matches, QUIET.id)),
+            asked: AskedProfile {
+                schedule: schedule_asked(alloc, matches)?,
+                plans: plans_asked(alloc, matches)?,
+                sharing: sharing_asked(matches),
+                quiet: is_set(texts_at(matches, QUIET.id)),
+            },
+            record: file_asked(alloc, matches, &RECORD)?,
         }),
         Kind::Time => Ok(Command::Time {
             schedule: schedule_asked(alloc, matches)?,
@@ -218,7 +222,8 @@ fn asked(alloc: Global, kind: Kind, matches: &ArgMatches) -> Result<Command, Wor
             quiet: is_set(texts_at(matches, QUIET.id)),
         }),
         Kind::WhatIf => Ok(Command::WhatIf {
-            names: names_asked(alloc, matches)?,
+            file: whatif_file_asked(alloc, matches)?,
+            schedule: schedule_asked(alloc, matches)?,
             cowns: cowns_asked(alloc, matches)?,
             edits: edits_asked(alloc, matches)?,
             plans: plans_asked(alloc, matches)?,
@@ -226,13 +231,21 @@ fn asked(alloc: Global, kind: Kind, matches: &ArgMatches) -> Result<Command, Wor
             short: is_set(texts_at(matches, SHORT.id)),
         }),
         Kind::Curve => Ok(Command::Curve {
-            most: most_asked(alloc, matches)?,
-            sharing: sharing_asked(matches),
+            asked: AskedCurve {
+                schedule: schedule_asked(alloc, matches)?,
+                most: most_asked(alloc, matches)?,
+                sharing: sharing_asked(matches),
+            },
+            record: file_asked(alloc, matches, &RECORD)?,
         }),
         Kind::Sweep => Ok(Command::Sweep {
-            over: over_asked(alloc, matches)?,
-            sharing: sharing_asked(matches),
-            best: small_number_asked(alloc, matches, &BEST)?,
+            asked: AskedSweep {
+                over: over_asked(alloc, matches)?,
+                schedule: schedule_asked(alloc, matches)?,
+                sharing: sharing_asked(matches),
+                best: small_number_asked(alloc, matches, &BEST)?,
+            },
+            file: run_file_asked(alloc, matches)?,
         }),
         Kind::Why => Ok(Command::Why {
             asked: AskedWhy {
@@ -378,17 +391,23 @@ fn run_file_asked(alloc: Global, matches: &ArgMatches) -> Result<Option<RunFile>
     }
 }
 
-// Returns the file given with a record that the words name. Two of them are a fault.
-fn names_asked(alloc: Global, matches: &ArgMatches) -> Result<Option<NamesFrom>, WordsFault>
-    ensures asked { IfOk result (AreNamesFrom (rows_of (found_of matches.now))) }
-    ensures refused { IfErr result (IsOfFiles (program_file ∷ names_file ∷ []) (rows_of (found_of matches.now))) }
+// Returns the file given with the input of `whatif` that the words name. Two of them are a fault.
+fn whatif_file_asked(alloc: Global, matches: &ArgMatches) -> Result<Option<WhatIfFile>, WordsFault>
+    ensures asked { IfOk result (IsWhatIfFile (rows_of (found_of matches.now))) }
+    ensures refused { IfErr result (IsOfFiles (program_file ∷ record_file ∷ names_file ∷ []) (rows_of (found_of matches.now))) }
 {
     let program = file_asked(alloc, matches, &PROGRAM)?;
-    match (program, file_asked(alloc, matches, &NAMES)?) {
+    let other = run_file_asked(alloc, matches)?;
+    match (program, other) {
         (None, None) => Ok(None),
-        (Some(path), None) => Ok(Some(NamesFrom::Program(path))),
-        (None, Some(path)) => Ok(Some(NamesFrom::Names(path))),
-        (Some(_), Some(_)) => Err(at_odds(
+        (Some(path), None) => Ok(Some(WhatIfFile::Program(path))),
+        (None, Some(RunFile::Record(path))) => Ok(Some(WhatIfFile::Record(path))),
+        (None, Some(RunFile::Names(path))) => Ok(Some(WhatIfFile::Names(path))),
+        (Some(_), Some(RunFile::Record(_))) => Err(at_odds(
+            alloc,
+            "the argument '--program <FILE>' cannot be used with '--record <FILE>'",
+        )),
+        (Some(_), Some(RunFile::Names(_))) => Err(at_odds(
             alloc,
             "the argument '--program <FILE>' cannot be used with '--names <FILE>'",
         )),

@@ -22,33 +22,15 @@ use Rattle.boc_order.specs.declared.report.Profile.{Profile}
 use Rattle.boc_order.specs.Profiles.{IsProfileOf}
 use Rattle.boc_greedy.specs.declared.plan.Greedy.{Greedy}
 use Rattle.boc_report.specs.Parts.{part_of}
-use Rattle.boc_commands.specs.Answers.{AreSwept, IsAskedPart, IsCheckAnswer, IsReport, IsProfileAnswer, IsCurveAnswer, IsSweepAnswer}
+use Rattle.boc_commands.specs.Answers.{AreSwept, IsAskedPart, IsCheckAnswer, IsReport, IsProfileAnswer, IsSweepAnswer}
 use Rattle.boc_commands.specs.Answers.{first_of}
 use Rattle.boc_plans.specs.declared.sweep.Sweep.{Sweep}
-use Rattle.boc_plans.specs.Greedy.{IsSpan}
-use Rattle.boc_plans.specs.Plans.{work_of}
-use Rattle.boc_greedy.specs.Curves.{IsCurve}
-use Rattle.boc_greedy.specs.declared.points.CurvePoint.{CurvePoint}
 use Rattle.boc_commands.specs.CheckTexts.{check_text}
-use Rattle.boc_report.specs.Texts.{report_text, curve_text, sweep_lines}
+use Rattle.boc_report.specs.Texts.{report_text, sweep_lines}
 use Rattle.boc_runs.specs.Records.{Recorded}
 use Rattle.boc_record.specs.RecordTexts.{IsTextOf}
 use Rattle.boc_record.specs.Reading.{TakesRecord}
 use Rattle.boc_words.specs.declared.asked.AskedPlans.{AskedPlans}
-
--- the answer of a curve, from the rows that plans were made for
-pub drawn : (sharing kept : Sharing) (most : ℕ) (input : List ℕ) (r : Recorded) (rows : List Row) (work span : ℕ) (points read : List CurvePoint)
-    (made output : List ℕ) → IsTextOf input r → rows ≡ r.rows → kept ≡ sharing → work ≡ work_of rows → IsSpan (seen kept rows) span
-    → IsCurve (seen kept rows) most points → read ≡ points → made ≡ curve_text work span read → output ≡ made → IsCurveAnswer sharing most input output
-drawn sharing kept most input r rows work span points read made output spells same way work_is span_is curve are text is = record {
-  recorded = r;
-  spells = spells;
-  span = span;
-  span_is = subst (λ s. IsSpan (seen s r.rows) span) way (subst (λ xs. IsSpan (seen kept xs) span) same span_is);
-  points = points;
-  curve = subst (λ s. IsCurve (seen s r.rows) most points) way (subst (λ xs. IsCurve (seen kept xs) most points) same curve);
-  text = is ∙ text ∙ ap (λ w. curve_text w span read) (work_is ∙ ap work_of same) ∙ ap (curve_text (work_of r.rows) span) are;
-}
 
 -- the answer of a sweep, from the rows that were swept
 pub swept : (sharing kept : Sharing) (over : Sweep) (input : List ℕ) (r : Recorded) (rows : List Row) (count first : ℕ) (ends read : List ℕ)

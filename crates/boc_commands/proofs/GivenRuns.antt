@@ -24,9 +24,9 @@ use Rattle.boc_commands.specs.Faults.{of_stray_beside}
 use Rattle.boc_runs.specs.declared.rows.Row.{Row}
 use Rattle.boc_busy.specs.declared.timed.TimedRows.{TimedRows}
 use Rattle.boc_commands.specs.NamedRuns.{AreRenamed, HasOwnTimes, HasRun, HasTimes, IsNamedRun, IsOfGiven, IsOfNamedRun, IsOfOwn, IsOfRenamed, IsOwnRun, IsRefusedName}
-use Rattle.boc_commands.specs.NamedRuns.{IsRecordNumbered, IsRenamed, IsShort, ReadsNamed, ReadsRun, RefusesNamedRecord, RefusesRenamed}
-use Rattle.boc_words.specs.declared.asked.NamesFrom.{NamesFrom}
-use Rattle.boc_words.specs.declared.asked.NamesFrom.TheVariants as names_from
+use Rattle.boc_commands.specs.NamedRuns.{IsRecordNumbered, IsRenamed, IsShort, ReadsRun, RefusesRenamed}
+use Rattle.std.specs.Result.{IsErrAnd}
+use Rattle.boc_commands.specs.Commands.{RefusesRecord}
 use Rattle.boc_commands.proofs.Asked.{told as told_of}
 use Rattle.boc_commands.proofs.TakenRuns.{begins_or_not}
 
@@ -127,30 +127,27 @@ own_as always_on schedule text bytes result asked is h = subst (λ (o : Option R
 -- ---- a record with names
 
 -- a record that was read, with names that a file laid over its numbers
-pub read_renamed : (bytes : List ℕ) (run : NamedRun) (result : Result NamedRun Fault) (asked : Option NamesFrom) (named : NamesFrom) (path : String Global)
-    (before after : Option (List ℕ)) → asked ≡ Some named → named ≡ names_from.Names path → ReadsRun IsRecordNumbered (Ok run) before after
-    → MatchResult result (IsRenamed bytes run) (IsRefusedName bytes run.names) → ReadsNamed asked bytes result before after
-read_renamed bytes run (Err fault) asked named path before after is_asked is_named read h = tt
-read_renamed bytes run (Ok renamed) asked named path before after is_asked is_named read h =
-    subst (λ (o : Option NamesFrom). ReadsNamed o bytes (Ok renamed) before after) (sym (is_asked ∙ ap Some is_named)) (
-      read.0,
-      read.1,
-      read.2,
-      record {
-        recorded = read.3.recorded;
-        named = record { base = run.names; named = read.3.named; renamed = h.renamed };
-        rows_are = h.same ∙ read.3.rows_are;
-        few = h.few;
-      },
-    )
+pub read_renamed : (bytes : List ℕ) (run : NamedRun) (result : Result NamedRun Fault) (before after : Option (List ℕ))
+    → ReadsRun IsRecordNumbered (Ok run) before after → MatchResult result (IsRenamed bytes run) (IsRefusedName bytes run.names)
+    → ReadsRun (λ input recorded names. AreRenamed (λ base. IsRecordNumbered input recorded base) bytes names) result before after
+read_renamed bytes run (Err fault) before after read h = tt
+read_renamed bytes run (Ok renamed) before after read h = (
+  read.0,
+  read.1,
+  read.2,
+  record {
+    recorded = read.3.recorded;
+    named = record { base = run.names; named = read.3.named; renamed = h.renamed };
+    rows_are = h.same ∙ read.3.rows_are;
+    few = h.few;
+  },
+)
 
 -- or why the file is none of names
-pub refused_renamed : (bytes : List ℕ) (run : NamedRun) (result : Result NamedRun Fault) (asked : Option NamesFrom) (named : NamesFrom)
-    (path : String Global) (before after : Option (List ℕ)) → asked ≡ Some named → named ≡ names_from.Names path
+pub refused_renamed : (bytes : List ℕ) (run : NamedRun) (result : Result NamedRun Fault) (before after : Option (List ℕ))
     → ReadsRun IsRecordNumbered (Ok run) before after → MatchResult result (IsRenamed bytes run) (IsRefusedName bytes run.names)
-    → RefusesNamedRecord asked bytes result before
-refused_renamed bytes run result asked named path before after is_asked is_named read h =
-    subst (λ (o : Option NamesFrom). RefusesNamedRecord o bytes result before) (sym (is_asked ∙ ap Some is_named)) (go result h)
+    → RefusesRenamed bytes result before
+refused_renamed bytes run result before after read h = go result h
   where
     of_names : (x : Fault) → IsRefusedName bytes run.names x → RefusesRenamed {A = NamedRun} bytes (Err x) before
     of_names (faults.Input (inputs.Beside (files.Names r))) is = record {
@@ -166,3 +163,26 @@ refused_renamed bytes run result asked named path before after is_asked is_named
     go : (r : Result NamedRun Fault) → MatchResult r (IsRenamed bytes run) (IsRefusedName bytes run.names) → RefusesRenamed bytes r before
     go (Ok renamed) is = tt
     go (Err fault) is = of_names fault is
+
+-- a record that is refused before its file of names is read
+pub refused_unnamed : (bytes : List ℕ) (result : Result NamedRun Fault) (fault : Fault) (before : Option (List ℕ)) → IsErrAnd result (λ f. f ≡ fault)
+    → RefusesRecord {A = NamedRun} (Err fault) before → RefusesRenamed bytes result before
+refused_unnamed bytes (Ok run) fault before h wrong = absurd h
+refused_unnamed bytes (Err f) fault before h wrong =
+    subst (λ (x : Fault). RefusesRenamed {A = NamedRun} bytes (Err x) before) (sym h) (go fault wrong)
+  where
+    go : (x : Fault) → RefusesRecord {A = NamedRun} (Err x) before → RefusesRenamed {A = NamedRun} bytes (Err x) before
+    go (faults.Input (inputs.Record r)) w = w
+    go (faults.Input (inputs.Beside (files.Names r))) w = absurd w
+    go (faults.Input (inputs.Beside (files.Program r))) w = w
+    go (faults.Input (inputs.Beside (files.Record r))) w = w
+    go (faults.Input (inputs.Beside (files.Stray r))) w = w
+    go (faults.Input (inputs.Program r)) w = w
+    go (faults.Input (inputs.Cown n)) w = w
+    go (faults.Input (inputs.Edit n e)) w = w
+    go (faults.Input (inputs.Def n)) w = w
+    go (faults.Input (inputs.Stray r)) w = w
+    go (faults.Words r) w = w
+    go (faults.Run r) w = w
+    go faults.Unscheduled w = w
+    go (faults.Means r) w = w

@@ -22,10 +22,14 @@ pub mod OneOrder
 pub mod CownsParts
 pub mod OneTold
 pub mod OneChange
+pub mod OneOfEither
 pub mod BesideFiles
 pub mod RunNames
 pub mod TakenRuns
 pub mod GivenRuns
+pub mod ProgramRuns
+pub mod ToldParts
+pub mod SweptLines
 pub mod examples
 pub mod ToldNames
 pub mod ByRows

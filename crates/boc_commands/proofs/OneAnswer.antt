@@ -1,43 +1,28 @@
 -- An input has one answer.
-use Rattle.std.proofs.Common.{◌≡◌, ℕ, Bool, List, [], ◌∷◌, ◌++◌, length, take, Option, Some, None, Ok, false, sym, ◌∙◌, ap, subst}
-use Rattle.boc_plans.specs.declared.edit.Edit.{Edit}
+use Rattle.std.proofs.Common.{◌≡◌, ℕ, Bool, List, ◌++◌, length, take, Option, Some, None, Ok, sym, ◌∙◌, ap, subst}
 use Rattle.boc_program.specs.declared.program.Program.{Program}
 use Rattle.boc_runs.specs.declared.rows.Row.{Row}
 use Rattle.boc_plans.specs.declared.sharing.Sharing.{Sharing}
 use Rattle.boc_runs.specs.OwnOrder.{EndsWith}
 use Rattle.boc_runs.specs.Records.{Recorded, IsRecord}
 use Rattle.boc_runs.specs.Rows.{IsRows}
-use Rattle.boc_runs.specs.Changes.{without}
 use Rattle.boc_plans.specs.Seen.{seen}
 use Rattle.boc_plans.specs.Plans.{work_of, HasEnds, IsEnd}
 use Rattle.boc_plans.specs.Chains.{IsPicked}
-use Rattle.boc_plans.specs.declared.edit.Change.{Change}
-use Rattle.boc_plans.specs.declared.edit.Change.TheVariants.{Ticks, Offset, Cost}
 use Rattle.boc_plans.specs.declared.sweep.Sweep.{Sweep}
 use Rattle.boc_plans.specs.declared.sweep.Sweep.TheVariants.{Ticks as TicksOf, Cowns, Spawns}
-use Rattle.boc_plans.specs.Edits.{AreEdited, IsChanged}
-use Rattle.boc_plans.specs.Greedy.{IsSpan}
-use Rattle.boc_greedy.specs.Curves.{IsCurve}
 use Rattle.boc_commands.specs.Answers.{AreSwept, IsPartFor, IsGreedyPart, IsReport, IsValuesAnswer, IsCheckAnswer, IsProfileAnswer}
-use Rattle.boc_commands.specs.Answers.{IsCurveAnswer, IsSweepAnswer, first_of}
-use Rattle.boc_commands.specs.BestAnswers.{IsBestAnswer, IsUnswept, best_lines}
+use Rattle.boc_commands.specs.Answers.{IsCurveAnswer, IsCurveTold, IsSweepAnswer, first_of}
+use Rattle.boc_commands.specs.BestAnswers.{AreBest, IsBestAnswer, IsUnswept, best_lines}
 use Rattle.boc_commands.specs.Beside.{IsCheckAgainstAnswer, IsValuesAfterAnswer}
-use Rattle.boc_names.specs.Names.{AreNumbers}
-use Rattle.boc_words.specs.declared.asked.AskedCown.{AskedCown}
-use Rattle.boc_words.specs.declared.asked.AskedEdit.{AskedEdit}
 use Rattle.boc_words.specs.declared.asked.AskedPlans.{AskedPlans}
-use Rattle.boc_commands.specs.Asked.{all_cowns, all_edits}
-use Rattle.boc_commands.specs.WhatIfAnswers.{IsWhatIfAnswer}
-use Rattle.boc_commands.proofs.SameNames.{same_cowns, same_edits}
 use Rattle.boc_runs.specs.Run.{config_of}
-use Rattle.boc_why.specs.Causes.{without_all}
 use Rattle.boc_why.specs.Ranking.{AreRanked}
+use Rattle.boc_why.specs.declared.ranking.Placed.{Placed}
 use Rattle.boc_why.proofs.OneRanking.{one_ranked}
 use Rattle.boc_ends_report.specs.ValueTexts.{values_text}
 use Rattle.boc_commands.specs.CheckTexts.{check_text}
 use Rattle.boc_report.specs.Texts.{report_text, greedy_text, curve_text, sweep_lines}
-use Rattle.boc_runs.proofs.Freeing.{rows_without}
-use Rattle.boc_runs.proofs.Scaling.{one_scaling}
 use Rattle.boc_runs.proofs.OwnOrders.{ends_once}
 use Rattle.boc_plans.proofs.Seeing.{rows_seen}
 use Rattle.boc_rules.proofs.Finished.{is_rows}
@@ -46,7 +31,6 @@ use Rattle.boc_record.proofs.OneFault.{one_record}
 use Rattle.boc_order.proofs.Alone.{one_bound, one_chain, one_end, one_list_of_ends, one_plan, one_span, one_sweep, one_cown_sweep, one_spawn_sweep}
 use Rattle.boc_greedy.proofs.Alone.{one_greedy_plan}
 use Rattle.boc_greedy.proofs.Curving.{one_curve, one_greedy_cown_sweep, one_greedy_end, one_greedy_sweep}
-use Rattle.boc_whatif.proofs.Changing.{changed_rows}
 use Rattle.boc_reader.proofs.Spellings.{one_program}
 use Rattle.boc_draws.proofs.OneWay.{one_way}
 use Rattle.boc_draws.specs.declared.way.Way.{Way}
@@ -91,31 +75,8 @@ one_report rows hr asked output other r s =
     r.text ∙ text ∙ sym s.text
 
 -- the rows of a record
-rows_are : (r : Recorded) → IsRecord r → IsRows r.rows
+pub rows_are : (r : Recorded) → IsRecord r → IsRows r.rows
 rows_are r is = is_rows r.cowns _ r.rows is.few (well_log r.cowns r.events is.legal) is.complete is.rows_are
-
--- the rows after edits that fit
-rows_after : (rows : List Row) → IsRows rows → (edits : List Edit) (after : List Row) → AreEdited rows edits after → IsRows after
-rows_after rows hr [] after made = rw made hr
-rows_after rows hr (edit ∷ edits) after made =
-    rows_after made.0 (changed_rows rows hr edit.row edit.change made.0 made.1) edits after made.2
-
--- the rows without some cowns
-rows_left : (cowns : List ℕ) (rows : List Row) → IsRows rows → IsRows (without_all cowns rows)
-rows_left [] rows hr = hr
-rows_left (cown ∷ cowns) rows hr = rows_left cowns (without cown rows) (rows_without cown rows hr)
-
-one_change : (rows : List Row) (row : ℕ) (change : Change) (after other : List Row) → IsChanged rows row change after → IsChanged rows row change other
-    → after ≡ other
-one_change rows row (Ticks ticks) after other a b = a.1 ∙ sym b.1
-one_change rows row (Offset offset) after other a b = a.1 ∙ sym b.1
-one_change rows row (Cost part) after other a b = one_scaling rows row part.over part.under after other a.1 b.1
-
-one_edited : (rows : List Row) (edits : List Edit) (after other : List Row) → AreEdited rows edits after → AreEdited rows edits other → after ≡ other
-one_edited rows [] after other a b = a ∙ sym b
-one_edited rows (edit ∷ edits) after other a b =
-    let same : a.0 ≡ b.0 = one_change rows edit.row edit.change a.0 b.0 a.1 b.1 in
-    one_edited b.0 edits after other (subst (λ (list : List Row). AreEdited list edits after) same a.2) b.2
 
 pub one_values_answer : (input output other : List ℕ) → IsValuesAnswer input output → IsValuesAnswer input other → output ≡ other
 one_values_answer input output other a b =
@@ -153,41 +114,24 @@ one_profile_answer sharing asked input output other a b =
     one_report (seen sharing b.recorded.rows) (rows_seen sharing b.recorded.rows (rows_are b.recorded b.spells.record_is)) asked output other
     (subst (λ (r : Recorded). IsReport (seen sharing r.rows) asked output) same a.report) b.report
 
-pub one_whatif_answer : (cowns : List AskedCown) (edits : List AskedEdit) (sharing : Sharing) (asked : AskedPlans) (bytes input output other : List ℕ)
-    → IsWhatIfAnswer None bytes cowns edits sharing asked false input output → IsWhatIfAnswer None bytes cowns edits sharing asked false input other
-    → output ≡ other
-one_whatif_answer cowns edits sharing asked bytes input output other a b =
-    let same : a.recorded ≡ b.recorded = one_record input a.recorded b.recorded a.named.spells b.named.spells in
-    let own : AreNumbers (length b.recorded.rows) b.recorded.cowns a.names =
-    subst (λ (r : Recorded). AreNumbers (length r.rows) r.cowns a.names) same a.named.names_are in
-    let meant : all_cowns a.names cowns ≡ all_cowns b.names cowns = same_cowns _ _ _ a.names b.names own b.named.names_are cowns in
-    let left : List Row = without_all (all_cowns b.names cowns) b.recorded.rows in
-    let shape : IsRows left = rows_left (all_cowns b.names cowns) b.recorded.rows (rows_are b.recorded b.named.spells.record_is) in
-    let edited : AreEdited left (all_edits b.names edits) a.report.after =
-    subst (λ (list : List Edit). AreEdited left list a.report.after) (same_edits _ _ a.names b.names own b.named.names_are edits)
-    (subst (λ (list : List ℕ). AreEdited (without_all list b.recorded.rows) (all_edits a.names edits) a.report.after) meant
-    (subst (λ (r : Recorded). AreEdited (without_all (all_cowns a.names cowns) r.rows) (all_edits a.names edits) a.report.after) same
-    a.report.changed.asked_for.edited)) in
-    let after : a.report.after ≡ b.report.after = one_edited left (all_edits b.names edits) a.report.after b.report.after edited
-    b.report.changed.asked_for.edited in
-    let rows : IsRows b.report.after = rows_after left shape (all_edits b.names edits) b.report.after b.report.changed.asked_for.edited in
-    one_report (seen sharing b.report.after) (rows_seen sharing b.report.after rows) asked output other
-    (subst (λ (list : List Row). IsReport (seen sharing list) asked output) after a.report.told) b.report.told
+-- rows have one curve
+pub one_curve_told : (sharing : Sharing) (most : ℕ) (rows : List Row) → IsRows rows → (output other : List ℕ) → IsCurveTold sharing most rows output
+    → IsCurveTold sharing most rows other → output ≡ other
+one_curve_told sharing most rows hr output other a b =
+    let points : a.points ≡ b.points = one_curve (seen sharing rows) (rows_seen sharing rows hr) most a.points b.points a.curve b.curve in
+    let span : a.span ≡ b.span = one_span (seen sharing rows) a.span b.span a.span_is b.span_is in
+    let text : curve_text (work_of rows) a.span a.points ≡ curve_text (work_of rows) b.span b.points =
+    λ i. curve_text (work_of rows) (span i) (points i) in
+    a.text ∙ text ∙ sym b.text
 
 pub one_curve_answer : (sharing : Sharing) (most : ℕ) (input output other : List ℕ) → IsCurveAnswer sharing most input output
     → IsCurveAnswer sharing most input other → output ≡ other
 one_curve_answer sharing most input output other a b =
     let same : a.recorded ≡ b.recorded = one_record input a.recorded b.recorded a.spells b.spells in
-    let rows : List Row = seen sharing b.recorded.rows in
-    let points : a.points ≡ b.points =
-    one_curve rows (rows_seen sharing b.recorded.rows (rows_are b.recorded b.spells.record_is)) most a.points b.points
-    (subst (λ (r : Recorded). IsCurve (seen sharing r.rows) most a.points) same a.curve) b.curve in
-    let span : a.span ≡ b.span = one_span rows a.span b.span (subst (λ (r : Recorded). IsSpan (seen sharing r.rows) a.span) same a.span_is) b.span_is in
-    let text : curve_text (work_of a.recorded.rows) a.span a.points ≡ curve_text (work_of b.recorded.rows) b.span b.points =
-    λ i. curve_text (work_of (same i).rows) (span i) (points i) in
-    a.text ∙ text ∙ sym b.text
+    one_curve_told sharing most b.recorded.rows (rows_are b.recorded b.spells.record_is) output other
+    (subst (λ (r : Recorded). IsCurveTold sharing most r.rows output) same a.told) b.told
 
-one_swept : (rows : List Row) → IsRows rows → (count : ℕ) (over : Sweep) (ends others : List ℕ) → AreSwept rows count over ends
+pub one_swept : (rows : List Row) → IsRows rows → (count : ℕ) (over : Sweep) (ends others : List ℕ) → AreSwept rows count over ends
     → AreSwept rows count over others → ends ≡ others
 one_swept rows hr count (TicksOf None) ends others s t = one_sweep rows ends others s t
 one_swept rows hr count (TicksOf (Some p)) ends others s t = one_greedy_sweep rows hr p ends others s t
@@ -204,12 +148,19 @@ one_sweep_answer sharing over input output other a b =
     (subst (λ (r : Recorded). AreSwept (seen sharing r.rows) r.cowns over a.ends) same a.sweep) b.sweep in
     a.text ∙ ap (sweep_lines (first_of over)) ends ∙ sym b.text
 
-one_unswept : (rows : List Row) → IsRows rows → (over : Sweep) (was other : ℕ) → IsUnswept rows over was → IsUnswept rows over other → was ≡ other
+pub one_unswept : (rows : List Row) → IsRows rows → (over : Sweep) (was other : ℕ) → IsUnswept rows over was → IsUnswept rows over other → was ≡ other
 one_unswept rows hr (TicksOf (Some p)) was other a b = one_greedy_end rows hr p was other a b
 one_unswept rows hr (TicksOf None) was other a b = one_span rows was other a b
 one_unswept rows hr (Cowns (Some p)) was other a b = one_greedy_end rows hr p was other a b
 one_unswept rows hr (Cowns None) was other a b = one_span rows was other a b
 one_unswept rows hr Spawns was other a b = one_span rows was other a b
+
+-- ends have one list of the best of them
+pub one_best : (ends others : List ℕ) → ends ≡ others → (most : ℕ) (best other : List Placed) → AreBest ends most best → AreBest others most other
+    → best ≡ other
+one_best ends others same most best other a b =
+    let all : a.all ≡ b.all = one_ranked others a.all b.all (subst (λ (list : List ℕ). AreRanked list a.all) same a.ranked) b.ranked in
+    a.first_are ∙ ap (take most) all ∙ sym b.first_are
 
 pub one_best_answer : (sharing : Sharing) (over : Sweep) (most : ℕ) (input output other : List ℕ) → IsBestAnswer sharing over most input output
     → IsBestAnswer sharing over most input other → output ≡ other
@@ -221,9 +172,7 @@ one_best_answer sharing over most input output other a b =
     (subst (λ (r : Recorded). AreSwept (seen sharing r.rows) r.cowns over a.ends) same a.sweep) b.sweep in
     let was : a.was ≡ b.was = one_unswept rows hr over a.was b.was (subst (λ (r : Recorded). IsUnswept (seen sharing r.rows) over a.was) same a.was_is)
     b.was_is in
-    let all : a.best_are.all ≡ b.best_are.all = one_ranked b.ends a.best_are.all b.best_are.all
-    (subst (λ (list : List ℕ). AreRanked list a.best_are.all) ends a.best_are.ranked) b.best_are.ranked in
-    let best : a.best ≡ b.best = a.best_are.first_are ∙ ap (take most) all ∙ sym b.best_are.first_are in
+    let best : a.best ≡ b.best = one_best a.ends b.ends ends most a.best b.best a.best_are b.best_are in
     let text : best_lines a.was (first_of over) a.best ≡ best_lines b.was (first_of over) b.best =
     λ i. best_lines (was i) (first_of over) (best i) in
     a.text ∙ text ∙ sym b.text

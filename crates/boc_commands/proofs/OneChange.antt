@@ -35,14 +35,13 @@ use Rattle.boc_words.specs.declared.asked.AskedCown.{AskedCown}
 use Rattle.boc_words.specs.declared.asked.AskedCown.TheVariants as asked_cowns
 use Rattle.boc_words.specs.declared.asked.AskedEdit.{AskedEdit}
 use Rattle.boc_words.specs.declared.asked.AskedEdit.TheVariants as asked_edits
-use Rattle.boc_words.specs.declared.asked.NamesFrom.{NamesFrom}
+use Rattle.boc_words.specs.declared.asked.WhatIfFile.{WhatIfFile}
 use Rattle.boc_commands.specs.Asked.{all_cowns, all_edits, costs, cowns_of, edits_of, first_some, named, starred}
 use Rattle.boc_words.specs.declared.asked.AskedPlans.{AskedPlans}
 use Rattle.boc_commands.specs.NamedRuns.{IsNamedRecord}
-use Rattle.boc_commands.specs.WhatIfAnswers.{AreChangedSo, IsAskedEnd, IsOutcome, IsReportAfter, IsShortReport, IsWhatIfAnswer}
-use Rattle.boc_commands.proofs.OneAnswer.{one_report}
+use Rattle.boc_commands.specs.WhatIfAnswers.{AreChangedSo, IsAskedEnd, IsOutcome, IsReportAfter, IsShortReport, IsWhatIfAnswer, IsWhatIfReport}
+use Rattle.boc_commands.proofs.OneAnswer.{one_report, rows_are}
 use Rattle.boc_commands.proofs.OneNaming.{is_text_of, one_named_record}
-use Rattle.boc_commands.proofs.OneTold.{rows_are}
 
 -- ---- what is asked for
 
@@ -146,7 +145,17 @@ one_report_after false names others same sharing plans before after hb ha output
 one_report_after true names others same sharing plans before after hb ha output other a b =
     one_short_report names others same sharing plans.workers before after hb ha output other a b
 
-pub one_whatif_answer : (file : Option NamesFrom) (bytes : List ℕ) (cowns : List AskedCown) (edits : List AskedEdit) (sharing : Sharing)
+-- rows that are called alike have one report after what is asked for
+pub one_whatif_report : (names others : Names) → CallTheSame names others → (cowns : List AskedCown) (edits : List AskedEdit) (sharing : Sharing)
+    (plans : AskedPlans) (short : Bool) (rows : List Row) → IsRows rows → (output other : List ℕ)
+    → IsWhatIfReport names cowns edits sharing plans short rows output → IsWhatIfReport others cowns edits sharing plans short rows other → output ≡ other
+one_whatif_report names others same cowns edits sharing plans short rows hr output other a b =
+    let after : a.after ≡ b.after = one_change rows names others same cowns edits a.after b.after a.changed b.changed in
+    one_report_after short names others same sharing plans rows b.after hr
+    (rows_changed rows names others same cowns edits a.after b.after a.changed b.changed hr) output other
+    (subst (λ (list : List Row). IsReportAfter short names sharing plans rows list output) after a.told) b.told
+
+pub one_whatif_answer : (file : Option WhatIfFile) (bytes : List ℕ) (cowns : List AskedCown) (edits : List AskedEdit) (sharing : Sharing)
     (plans : AskedPlans) (short : Bool) (input output other : List ℕ) → IsWhatIfAnswer file bytes cowns edits sharing plans short input output
     → IsWhatIfAnswer file bytes cowns edits sharing plans short input other → output ≡ other
 one_whatif_answer file bytes cowns edits sharing plans short input output other a b =
@@ -155,14 +164,5 @@ one_whatif_answer file bytes cowns edits sharing plans short input output other 
     one_record input a.recorded b.recorded (is_text_of file bytes input a.recorded a.names a.named) is in
     let called : CallTheSame a.names b.names = one_named_record file bytes input b.recorded a.names b.names
     (subst (λ (r : Recorded). IsNamedRecord file bytes input r a.names) recorded a.named) b.named in
-    let rows : List Row = b.recorded.rows in
-    let hr : IsRows rows = rows_are b.recorded is.record_is in
-    let changed : AreChangedSo a.names cowns edits rows a.report.after =
-    subst (λ (r : Recorded). AreChangedSo a.names cowns edits r.rows a.report.after) recorded a.report.changed in
-    let after : a.report.after ≡ b.report.after =
-    one_change rows a.names b.names called cowns edits a.report.after b.report.after changed b.report.changed in
-    let told : IsReportAfter short a.names sharing plans rows b.report.after output =
-    subst (λ (list : List Row). IsReportAfter short a.names sharing plans rows list output) after
-    (subst (λ (r : Recorded). IsReportAfter short a.names sharing plans r.rows a.report.after output) recorded a.report.told) in
-    one_report_after short a.names b.names called sharing plans rows b.report.after hr
-    (rows_changed rows a.names b.names called cowns edits a.report.after b.report.after changed b.report.changed hr) output other told b.report.told
+    one_whatif_report a.names b.names called cowns edits sharing plans short b.recorded.rows (rows_are b.recorded is.record_is) output other
+    (subst (λ (r : Recorded). IsWhatIfReport a.names cowns edits sharing plans short r.rows output) recorded a.report) b.report

@@ -11,11 +11,14 @@ use Rattle.boc_runs.specs.Run.{config_of}
 use Rattle.boc_names.specs.declared.names.Names.{Names}
 use Rattle.boc_names.specs.Names.{AreNamesOf, CallTheSame, Text}
 use Rattle.boc_names.proofs.OneName.{one_naming, one_naming_by_file, one_numbering}
-use Rattle.boc_words.specs.declared.asked.NamesFrom.{NamesFrom}
-use Rattle.boc_words.specs.declared.asked.NamesFrom.TheVariants as names_from
+use Rattle.boc_words.specs.declared.asked.WhatIfFile.{WhatIfFile}
+use Rattle.boc_words.specs.declared.asked.WhatIfFile.TheVariants as names_from
 use Rattle.boc_words.specs.declared.asked.RunFile.{RunFile}
 use Rattle.boc_words.specs.declared.asked.RunFile.TheVariants as run_files
 use Rattle.boc_words.specs.declared.schedule.Schedule.{Schedule}
+use Rattle.boc_commands.specs.declared.program_input.Supplied.{Supplied}
+use Rattle.boc_commands.specs.declared.program_input.Supplied.TheVariants.{Nothing, Record, Names as NamesFile}
+use Rattle.boc_commands.specs.ProgramInputs.{IsProgramRun}
 use Rattle.boc_commands.specs.NamedRuns.{IsNamedRecord, IsNamedRun, IsOwnRun, IsRecordNumbered, IsRunGiven, IsRunNamed}
 use Rattle.boc_commands.proofs.NoProgram.{record_spells_none}
 use Rattle.boc_commands.proofs.OneProgram.{same_program}
@@ -52,7 +55,7 @@ one_given text file recorded names other a b =
     (subst (λ (p : Program). AreNamesOf p (map (λ d. d.name) a.defs) (config_of p recorded.events).members names) program a.names_are))
     b.names_are
 
-one_numbered : (text : List ℕ) (recorded : Recorded) (names other : Names) → IsRecordNumbered text recorded names → IsRecordNumbered text recorded other
+pub one_numbered : (text : List ℕ) (recorded : Recorded) (names other : Names) → IsRecordNumbered text recorded names → IsRecordNumbered text recorded other
     → CallTheSame names other
 one_numbered text recorded names other a b = one_numbering (length recorded.rows) recorded.cowns names other a.names_are b.names_are
 
@@ -99,18 +102,43 @@ pub same_record : (schedule : Schedule) (file : Option RunFile) (bytes input : L
 same_record schedule file bytes input told is recorded other names others a b =
     run_is_told schedule file bytes input told recorded names is a ∙ sym (run_is_told schedule file bytes input told other others is b)
 
+-- ---- the run of a program
+
+pub one_program_named : (schedule : Schedule) (supplied : Supplied) (file text : List ℕ) (recorded : Recorded) (names other : Names)
+    → IsProgramRun schedule supplied file text recorded names → IsProgramRun schedule supplied file text recorded other → CallTheSame names other
+one_program_named schedule Nothing file text recorded names other a b = one_named text recorded names other a.named b.named
+one_program_named schedule Record file text recorded names other a b = one_given text file recorded names other a b
+one_program_named schedule NamesFile file text recorded names other a b =
+    one_naming_by_file file a.base b.base names other (one_named text recorded a.base b.base a.named.named b.named.named) a.renamed b.renamed
+
+pub program_is_record : (schedule : Schedule) (supplied : Supplied) (file text : List ℕ) (recorded : Recorded) (names : Names)
+    → IsProgramRun schedule supplied file text recorded names → IsRecord recorded
+program_is_record schedule Nothing file text recorded names a = a.named.run.whole
+program_is_record schedule Record file text recorded names a = a.text_of.record_is
+program_is_record schedule NamesFile file text recorded names a = a.named.named.run.whole
+
+-- the text of a record spells no program
+pub no_run_of_record : (schedule : Schedule) (supplied : Supplied) (file text : List ℕ) (told recorded : Recorded) (names : Names) → IsTextOf text told
+    → IsProgramRun schedule supplied file text recorded names → ⊥
+no_run_of_record schedule Nothing file text told recorded names is a = record_spells_none text told a.named.program is a.named.spells
+no_run_of_record schedule Record file text told recorded names is a = record_spells_none text told a.program is a.spells
+no_run_of_record schedule NamesFile file text told recorded names is a =
+    record_spells_none text told a.named.named.program is a.named.named.spells
+
 -- ---- a record with names
 
-pub one_named_record : (file : Option NamesFrom) (bytes input : List ℕ) (recorded : Recorded) (names other : Names)
+pub one_named_record : (file : Option WhatIfFile) (bytes input : List ℕ) (recorded : Recorded) (names other : Names)
     → IsNamedRecord file bytes input recorded names → IsNamedRecord file bytes input recorded other → CallTheSame names other
 one_named_record None bytes input recorded names other a b = one_numbered input recorded names other a b
 one_named_record (Some (names_from.Program path)) bytes input recorded names other a b = one_given bytes input recorded names other a b
+one_named_record (Some (names_from.Record path)) bytes input recorded names other a b = one_numbered input recorded names other a b
 one_named_record (Some (names_from.Names path)) bytes input recorded names other a b =
     one_naming_by_file bytes a.base b.base names other (one_numbered input recorded a.base b.base a.named b.named) a.renamed b.renamed
 
 -- the input is the text of the record
-pub is_text_of : (file : Option NamesFrom) (bytes input : List ℕ) (recorded : Recorded) (names : Names) → IsNamedRecord file bytes input recorded names
+pub is_text_of : (file : Option WhatIfFile) (bytes input : List ℕ) (recorded : Recorded) (names : Names) → IsNamedRecord file bytes input recorded names
     → IsTextOf input recorded
 is_text_of None bytes input recorded names a = a.spells
 is_text_of (Some (names_from.Program path)) bytes input recorded names a = a.text_of
+is_text_of (Some (names_from.Record path)) bytes input recorded names a = a.spells
 is_text_of (Some (names_from.Names path)) bytes input recorded names a = a.named.spells

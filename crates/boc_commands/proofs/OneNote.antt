@@ -14,7 +14,7 @@ use Rattle.boc_plans.specs.Greedy.{IsSpan}
 use Rattle.boc_plans.specs.Seen.{seen}
 use Rattle.boc_order.proofs.Alone.{one_span}
 use Rattle.boc_timed.specs.declared.timing.TimedRun.{TimedRun}
-use Rattle.boc_timed.specs.Timed.{IsTimedRun, RunsOut}
+use Rattle.boc_timed.specs.Timed.{IsTimedRun}
 use Rattle.boc_timed.proofs.OneTimed.{one_run, run_or_full}
 use Rattle.boc_commands.specs.TimedNotes.{HasTimedSpan, IsNoteFor, IsTimedNote, IsTimedSpan, note_beside}
 use Rattle.boc_commands.proofs.OneProgram.{same_program}

@@ -9,7 +9,6 @@ use Rattle.boc_plans.specs.Seen.{writing_all}
 use Rattle.boc_order.proofs.Alone.{one_end}
 use Rattle.boc_busy.specs.declared.timed.TimedRows.{TimedRows}
 use Rattle.boc_timed.proofs.OneTimetable.{one_timetable}
-use Rattle.boc_why_report.specs.declared.told.TimedEnd.{TimedEnd}
 use Rattle.boc_words.specs.declared.asked.RunFile.{RunFile}
 use Rattle.boc_words.specs.declared.asked.RunFile.TheVariants as run_files
 use Rattle.boc_words.specs.declared.schedule.Schedule.{Schedule}

@@ -2,10 +2,8 @@
 use Rattle.std.proofs.Common.{◌≡◌, ◌∙◌, ℕ, Bool, true, false, List, ◌++◌, length, Option, Some, None, subst, sym}
 use Rattle.std.specs.Prelude.{option_map}
 use Rattle.boc_runs.specs.declared.rows.Row.{Row}
-use Rattle.boc_runs.specs.Records.{IsRecord, Recorded}
+use Rattle.boc_runs.specs.Records.{Recorded}
 use Rattle.boc_runs.specs.Rows.{IsRows}
-use Rattle.boc_rules.proofs.Finished.{is_rows}
-use Rattle.boc_rules.proofs.Next.{well_log}
 use Rattle.boc_plans.specs.declared.sharing.Sharing.{Sharing}
 use Rattle.boc_plans.specs.Seen.{seen}
 use Rattle.boc_plans.proofs.Seeing.{rows_seen}
@@ -13,15 +11,12 @@ use Rattle.boc_greedy.proofs.Curving.{one_greedy_cown_sweep, one_greedy_end}
 use Rattle.boc_names.specs.declared.names.Names.{Names}
 use Rattle.boc_names.specs.Names.{CallTheSame, texts_of}
 use Rattle.boc_why_report.specs.declared.told.TimedEnd.{TimedEnd}
-use Rattle.boc_remedies.specs.declared.greedy_why.GreedyWhy.{GreedyWhy}
-use Rattle.boc_remedies.specs.GreedyWhys.{SayTheSameIfAsked}
 use Rattle.boc_remedies.specs.Questions.{Asked}
 use Rattle.boc_remedies.specs.Together.{AreCownsTogether}
 use Rattle.boc_remedies.proofs.OneAdvised.{one_advised}
 use Rattle.boc_remedies.proofs.OneEnds.{one_ends as one_ends_now}
 use Rattle.boc_remedies.proofs.OneSteps.{one_steps}
 use Rattle.boc_remedies.proofs.OneTogether.{one_table}
-use Rattle.boc_advice_report.specs.Same.{AreSameGreedy}
 use Rattle.boc_advice_report.proofs.OneText.{one_steps_text, one_why_text}
 use Rattle.boc_cowns.specs.declared.hot.HotCowns.{HotCowns}
 use Rattle.boc_cowns.proofs.One.{cowns_same, least_same, shared_same, span_same}
@@ -44,11 +39,8 @@ use Rattle.boc_commands.specs.WhyAnswers.{AreStepsTold, IsTold, IsToldOf, IsWhyT
 use Rattle.boc_commands.proofs.OneNote.{one_note}
 use Rattle.boc_commands.proofs.OneOrder.{one_order}
 use Rattle.boc_commands.proofs.OneTimes.{one_ends}
+use Rattle.boc_commands.proofs.OneAnswer.{rows_are}
 use Rattle.boc_commands.proofs.OneNaming.{one_named_run, run_is_record}
-
--- the rows of a record
-pub rows_are : (r : Recorded) → IsRecord r → IsRows r.rows
-rows_are r is = is_rows r.cowns _ r.rows is.few (well_log r.cowns r.events is.legal) is.complete is.rows_are
 
 -- ---- what is asked
 
@@ -65,12 +57,6 @@ asked_same rows names others same sharing workers = λ i. record {
 
 -- ---- why
 
-greedy_same : (greedy other : Option GreedyWhy) → SayTheSameIfAsked greedy other → AreSameGreedy greedy other
-greedy_same None None alike = alike
-greedy_same None (Some other) alike = absurd alike
-greedy_same (Some greedy) None alike = absurd alike
-greedy_same (Some greedy) (Some other) alike = alike
-
 one_why_told : (question : Asked) → IsRows question.rows → (names others : Names) → CallTheSame names others → (all : Bool) (timed at : Option TimedEnd)
     → timed ≡ at → (text other : List ℕ) → IsWhyTold question names all timed text → IsWhyTold question others all at other → text ≡ other
 one_why_told question hr names others same all timed at ends text other a b =
@@ -81,7 +67,7 @@ one_why_told question hr names others same all timed at ends text other a b =
     (subst (λ (span : ℕ). IsOtherOrder rows span a.told.order) found.why.span a.is.is_order) b.is.is_order in
     one_why_text names others same question.sharing all a.told b.told (record {
       why = found.why;
-      greedy = greedy_same a.told.greedy.now b.told.greedy.now found.greedy;
+      greedy = found.greedy;
       advice = record { now = found.now; candidates = found.candidates; together = found.together };
       order = order;
       timed = a.is.timed_is ∙ ends ∙ sym b.is.timed_is;

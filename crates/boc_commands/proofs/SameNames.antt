@@ -1,5 +1,5 @@
 -- What is asked for means the same where rows and cowns are called by their numbers, whoever calls them so.
-use Rattle.std.proofs.Common.{◌≡◌, ◌∙◌, ◌||◌, ℕ, List, [], ◌∷◌, ◌++◌, Vec, length, map, ap, ap₂, refl, sym}
+use Rattle.std.proofs.Common.{◌≡◌, ◌∙◌, ◌||◌, ℕ, List, [], ◌∷◌, ◌++◌, Vec, length, ap, ap₂, refl, sym}
 use Rattle.std.specs.Prelude.{cond, filter, nat_lt, string_bytes}
 use Rattle.std.specs.Global.{Global}
 use Rattle.std.specs.List.{range_with_len}
@@ -10,9 +10,7 @@ use Rattle.boc_names.specs.Names.{Text, AreNumbers, text_at, texts_of}
 use Rattle.std.specs.Prelude.{slice_index}
 use Rattle.boc_words.specs.declared.asked.AskedCown.{AskedCown}
 use Rattle.boc_words.specs.declared.asked.AskedCown.TheVariants as cowns
-use Rattle.boc_words.specs.declared.asked.AskedEdit.{AskedEdit}
-use Rattle.boc_words.specs.declared.asked.AskedEdit.TheVariants as edits
-use Rattle.boc_commands.specs.Asked.{all_cowns, all_edits, costs, cowns_of, edits_of, first_some, named, starred}
+use Rattle.boc_commands.specs.Asked.{all_cowns, cowns_of, first_some, named, starred}
 
 as_many : (a b : List (Vec ℕ Global)) → texts_of a ≡ texts_of b → length a ≡ length b
 as_many a b same =
@@ -42,19 +40,3 @@ module _ (rows others count : ℕ) (a b : Names) (one : AreNumbers rows count a)
   pub same_cowns : (asked : List AskedCown) → all_cowns a asked ≡ all_cowns b asked
   same_cowns [] = refl
   same_cowns (x ∷ asked) = ap₂ ◌++◌ (cowns_meant x) (same_cowns asked)
-
-module _ (rows count : ℕ) (a b : Names) (one : AreNumbers rows count a) (other : AreNumbers rows count b) where
-  defs_are : a.defs.items ≡ b.defs.items
-  defs_are = one.defs ∙ sym other.defs
-
-  def_names_are : texts_of a.def_names.items ≡ texts_of b.def_names.items
-  def_names_are = one.def_names ∙ sym other.def_names
-
-  edits_meant : (asked : AskedEdit) → edits_of a asked ≡ edits_of b asked
-  edits_meant (edits.Row edit) = refl
-  edits_meant (edits.Def name part) = λ i. map (costs part) (filter (λ row. bytes_eq (text_at (def_names_are i) (slice_index (defs_are i) row))
-      (string_bytes name)) (range_with_len 0 (length (defs_are i))))
-
-  pub same_edits : (asked : List AskedEdit) → all_edits a asked ≡ all_edits b asked
-  same_edits [] = refl
-  same_edits (x ∷ asked) = ap₂ ◌++◌ (edits_meant x) (same_edits asked)

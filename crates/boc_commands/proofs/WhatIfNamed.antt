@@ -5,8 +5,8 @@ use Rattle.boc_runs.specs.declared.rows.Row.{Row}
 use Rattle.boc_plans.specs.declared.sharing.Sharing.{Sharing}
 use Rattle.boc_words.specs.declared.asked.AskedCown.{AskedCown}
 use Rattle.boc_words.specs.declared.asked.AskedEdit.{AskedEdit}
-use Rattle.boc_words.specs.declared.asked.NamesFrom.{NamesFrom}
-use Rattle.boc_words.specs.declared.asked.NamesFrom.TheVariants as names_from
+use Rattle.boc_words.specs.declared.asked.WhatIfFile.{WhatIfFile}
+use Rattle.boc_words.specs.declared.asked.WhatIfFile.TheVariants as names_from
 use Rattle.boc_commands.specs.declared.fault.Fault.{Fault}
 use Rattle.boc_commands.specs.declared.fault.Fault.TheVariants as faults
 use Rattle.boc_commands.specs.declared.fault.FileFault.TheVariants as files
@@ -20,14 +20,14 @@ use Rattle.boc_words.specs.declared.asked.AskedPlans.{AskedPlans}
 use Rattle.boc_commands.proofs.Asked.{leaves_as, told}
 
 -- the record is refused, or the file beside it
-pub refused_before : (file : Option NamesFrom) (bytes : List ℕ) (cowns : List AskedCown) (edits : List AskedEdit) (result : Result (Unit {0}) Fault)
+pub refused_before : (file : Option WhatIfFile) (bytes : List ℕ) (cowns : List AskedCown) (edits : List AskedEdit) (result : Result (Unit {0}) Fault)
     (fault : Fault) (before : Option (List ℕ)) → IsErrAnd result (λ f. f ≡ fault) → RefusesNamedRecord {A = NamedRun} file bytes (Err fault) before
     → RefusesWhatIf file bytes cowns edits result before
 refused_before file bytes cowns edits (Ok done) fault before h is = absurd h
 refused_before file bytes cowns edits (Err f) fault before h is =
     subst (λ (x : Fault). RefusesWhatIf {A = Unit {0}} file bytes cowns edits (Err x) before) (sym h) (go file fault is)
   where
-    go : (o : Option NamesFrom) (x : Fault) → RefusesNamedRecord {A = NamedRun} o bytes (Err x) before
+    go : (o : Option WhatIfFile) (x : Fault) → RefusesNamedRecord {A = NamedRun} o bytes (Err x) before
         → RefusesWhatIf {A = Unit {0}} o bytes cowns edits (Err x) before
     go None (faults.Input (inputs.Cown n)) is = absurd is
     go None (faults.Input (inputs.Edit n f)) is = absurd is
@@ -54,6 +54,17 @@ refused_before file bytes cowns edits (Err f) fault before h is =
     go (Some (names_from.Program path)) (faults.Run r) is = is
     go (Some (names_from.Program path)) faults.Unscheduled is = is
     go (Some (names_from.Program path)) (faults.Means w) is = is
+    go (Some (names_from.Record path)) (faults.Input (inputs.Cown n)) is = absurd is
+    go (Some (names_from.Record path)) (faults.Input (inputs.Edit n f)) is = absurd is
+    go (Some (names_from.Record path)) (faults.Input (inputs.Def n)) is = absurd is
+    go (Some (names_from.Record path)) (faults.Input (inputs.Program r)) is = is
+    go (Some (names_from.Record path)) (faults.Input (inputs.Record r)) is = is
+    go (Some (names_from.Record path)) (faults.Input (inputs.Stray r)) is = is
+    go (Some (names_from.Record path)) (faults.Input (inputs.Beside r)) is = is
+    go (Some (names_from.Record path)) (faults.Words w) is = is
+    go (Some (names_from.Record path)) (faults.Run r) is = is
+    go (Some (names_from.Record path)) faults.Unscheduled is = is
+    go (Some (names_from.Record path)) (faults.Means w) is = is
     go (Some (names_from.Names path)) (faults.Input (inputs.Cown n)) is = absurd is
     go (Some (names_from.Names path)) (faults.Input (inputs.Edit n f)) is = absurd is
     go (Some (names_from.Names path)) (faults.Input (inputs.Def n)) is = absurd is
@@ -70,10 +81,11 @@ refused_before file bytes cowns edits (Err f) fault before h is =
     go (Some (names_from.Names path)) (faults.Means w) is = is
 
 -- want of memory and of a device are never a refusal
-wanting : (file : Option NamesFrom) (bytes : List ℕ) (before : Option (List ℕ)) (want : Want)
+wanting : (file : Option WhatIfFile) (bytes : List ℕ) (before : Option (List ℕ)) (want : Want)
     → RefusesNamedRecord {A = Unit {0}} file bytes (Err (faults.Means want)) before
 wanting None bytes before want = tt
 wanting (Some (names_from.Program path)) bytes before want = tt
+wanting (Some (names_from.Record path)) bytes before want = tt
 wanting (Some (names_from.Names path)) bytes before want = tt
 
 neither : {A B : Type 0} → (A → ⊥) → (B → ⊥) → A ⊎ B → ⊥
@@ -81,7 +93,7 @@ neither first second (inl a) = first a
 neither first second (inr b) = second b
 
 -- what is asked for is refused, in the names of the record that was read
-pub refused_asked : (file : Option NamesFrom) (bytes : List ℕ) (cowns : List AskedCown) (edits : List AskedEdit) (run : NamedRun)
+pub refused_asked : (file : Option WhatIfFile) (bytes : List ℕ) (cowns : List AskedCown) (edits : List AskedEdit) (run : NamedRun)
     (result : Result (Unit {0}) Fault) (before after : Option (List ℕ)) → ReadsNamed file bytes (Ok run) before after
     → RefusesAsked run.names cowns edits run.rows result → RefusesWhatIf file bytes cowns edits result before
 refused_asked file bytes cowns edits run (Ok done) before after read h = tt
@@ -112,7 +124,7 @@ refused_asked file bytes cowns edits run (Err fault) before after read h = go fa
     go faults.Unscheduled is = absurd (neither (λ no. no) (λ after. after.unfit) is)
 
 -- what goes out of it answers the input
-pub written_named : (file : Option NamesFrom) (bytes : List ℕ) (cowns : List AskedCown) (edits : List AskedEdit) (sharing : Sharing) (plans : AskedPlans)
+pub written_named : (file : Option WhatIfFile) (bytes : List ℕ) (cowns : List AskedCown) (edits : List AskedEdit) (sharing : Sharing) (plans : AskedPlans)
     (short : Bool) (run : NamedRun) (result : Result (Unit {0}) Fault) (before after old new : Option (List ℕ))
     → ReadsNamed file bytes (Ok run) before after → Leaves (IsWhatIfReport run.names cowns edits sharing plans short run.rows) result old new
     → Leaves (AnswersInput (IsWhatIfAnswer file bytes cowns edits sharing plans short) before after) result old new

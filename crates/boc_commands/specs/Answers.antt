@@ -80,16 +80,20 @@ pub record IsProfileAnswer (sharing : Sharing) (asked : AskedPlans) (input outpu
   pub spells : IsTextOf input recorded
   pub report : IsReport (seen sharing recorded.rows) asked output
 
--- the input is the text of a record, and the output is the curve of its rows, as they are seen: their work, their span, and for each number of
--- workers up to the most the end of the greedy plan, with the bounds that it lies between
+-- the output is the curve of some rows, as they are seen: their work, their span, and for each number of workers up to the most the end of the greedy plan,
+-- with the bounds that it lies between
+pub record IsCurveTold (sharing : Sharing) (most : ℕ) (rows : List Row) (output : List ℕ) : Type 0 where
+  pub span : ℕ
+  pub span_is : IsSpan (seen sharing rows) span
+  pub points : List CurvePoint
+  pub curve : IsCurve (seen sharing rows) most points
+  pub text : output ≡ curve_text (work_of rows) span points
+
+-- the input is the text of a record, and the output is the curve of its rows
 pub record IsCurveAnswer (sharing : Sharing) (most : ℕ) (input output : List ℕ) : Type 0 where
   pub recorded : Recorded
   pub spells : IsTextOf input recorded
-  pub span : ℕ
-  pub span_is : IsSpan (seen sharing recorded.rows) span
-  pub points : List CurvePoint
-  pub curve : IsCurve (seen sharing recorded.rows) most points
-  pub text : output ≡ curve_text (work_of recorded.rows) span points
+  pub told : IsCurveTold sharing most recorded.rows output
 
 -- what a sweep over rows with so many cowns finds: for each row, cown or spawn the end of a plan in which that one is changed; of the earliest
 -- plan, which is the span, or of the greedy plan for the number of workers that was asked for

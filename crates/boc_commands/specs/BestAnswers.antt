@@ -1,5 +1,5 @@
 -- What `sweep --best` answers.
-use Rattle.std.specs.Prelude.{◌≡◌, ◌+◌, ◌-◌, ℕ, List, [], ◌∷◌, ◌++◌, Option, Some, None, cond, nat_lt, take, codes, decimal}
+use Rattle.std.specs.Prelude.{◌≡◌, ◌+◌, ◌-◌, ℕ, List, [], ◌∷◌, ◌++◌, Some, cond, nat_lt, take, codes, decimal}
 use Rattle.boc_runs.specs.declared.rows.Row.{Row}
 use Rattle.boc_runs.specs.Records.{Recorded}
 use Rattle.boc_plans.specs.Greedy.{IsSpan}
@@ -7,7 +7,7 @@ use Rattle.boc_plans.specs.Seen.{seen}
 use Rattle.boc_plans.specs.Sweeps.{IsGreedyEnd}
 use Rattle.boc_plans.specs.declared.sharing.Sharing.{Sharing}
 use Rattle.boc_plans.specs.declared.sweep.Sweep.{Sweep}
-use Rattle.boc_plans.specs.declared.sweep.Sweep.TheVariants.{Ticks, Cowns, Spawns}
+use Rattle.boc_plans.specs.declared.sweep.Sweep.TheVariants.{Ticks, Cowns}
 use Rattle.boc_record.specs.RecordTexts.{IsTextOf}
 use Rattle.boc_why.specs.Ranking.{AreRanked}
 use Rattle.boc_why.specs.declared.ranking.Placed.{Placed}
@@ -22,6 +22,10 @@ gain_text was end = cond (nat_lt was end) (codes "-" ++ decimal (end - was)) (de
 -- the line of a row or a cown: its number, the end that goes with it, and by how much that is sooner than it was
 abbrev pub best_line : ℕ → ℕ → ℕ → List ℕ
 best_line was number end = decimal number ++ codes " " ++ decimal end ++ codes " " ++ gain_text was end ++ codes "\n"
+
+-- the same without its end
+abbrev pub gains_text : ℕ → ℕ → ℕ → List ℕ
+gains_text was number end = decimal number ++ codes " " ++ decimal end ++ codes " " ++ gain_text was end
 
 -- the lines of such ends, by their places behind the first number
 abbrev pub best_lines : ℕ → ℕ → List Placed → List ℕ

@@ -5,6 +5,8 @@ pub mod Faults
 pub mod Promises
 pub mod Commands
 pub mod NamedRuns
+pub mod ProgramInputs
+pub mod SweepAnswers
 pub mod TimedAnswers
 pub mod OrderAnswers
 pub mod TimedNotes

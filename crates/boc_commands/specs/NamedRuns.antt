@@ -20,8 +20,8 @@ use Rattle.boc_names.specs.declared.fault.NamesFaultKind.{NamesFaultKind}
 use Rattle.boc_names.specs.declared.fault.NamesFaultKind.TheVariants as name_kinds
 use Rattle.boc_names.specs.Names.{AreNamesOf, AreNumbers}
 use Rattle.boc_names.specs.NamesFile.{IsNamedBy, IsNamesFault}
-use Rattle.boc_words.specs.declared.asked.NamesFrom.{NamesFrom}
-use Rattle.boc_words.specs.declared.asked.NamesFrom.TheVariants as names_from
+use Rattle.boc_words.specs.declared.asked.WhatIfFile.{WhatIfFile}
+use Rattle.boc_words.specs.declared.asked.WhatIfFile.TheVariants as names_from
 use Rattle.boc_words.specs.declared.asked.RunFile.{RunFile}
 use Rattle.boc_words.specs.declared.asked.RunFile.TheVariants as run_files
 use Rattle.boc_words.specs.declared.schedule.Schedule.{Schedule}
@@ -214,10 +214,11 @@ RefusesNamedRun always_on schedule file bytes (Err fault) before after =
 -- ---- a record with names
 
 -- The record whose text the input is, with what its rows and cowns are called: by their numbers; as in the program in a file beside it, of which it is a run;
--- or with a file of names.
-abbrev pub IsNamedRecord : Option NamesFrom → List ℕ → List ℕ → Recorded → Names → Type 0
+-- or with a file of names. Another record in that file tells nothing of it.
+abbrev pub IsNamedRecord : Option WhatIfFile → List ℕ → List ℕ → Recorded → Names → Type 0
 IsNamedRecord None file input recorded names = IsRecordNumbered input recorded names
 IsNamedRecord (Some (names_from.Program path)) file input recorded names = IsRunGiven file input recorded names
+IsNamedRecord (Some (names_from.Record path)) file input recorded names = IsRecordNumbered input recorded names
 IsNamedRecord (Some (names_from.Names path)) file input recorded names = AreRenamed (λ base. IsRecordNumbered input recorded base) file names
 
 -- the source gave an input to its end, and these are the rows of the record that it tells, with their names
@@ -226,7 +227,7 @@ ReadsRun Named (Ok run) before after = (input : List ℕ) × Consumes before aft
 ReadsRun Named (Err fault) before after = Unit {0}
 
 -- the same of a record with the names that it has with the file beside it
-abbrev pub ReadsNamed : Option NamesFrom → List ℕ → Result NamedRun Fault → Option (List ℕ) → Option (List ℕ) → Type 0
+abbrev pub ReadsNamed : Option WhatIfFile → List ℕ → Result NamedRun Fault → Option (List ℕ) → Option (List ℕ) → Type 0
 ReadsNamed file bytes result before after = ReadsRun (λ input recorded names. IsNamedRecord file bytes input recorded names) result before after
 
 -- the source told the text of a record, if it told any, and the file is none of names for it, for this fault
@@ -245,7 +246,8 @@ RefusesRenamed file (Err (faults.Input (inputs.Beside (files.Names r)))) before 
 RefusesRenamed file (Err fault) before = IsWant fault
 
 -- a record is refused, or the file beside it
-abbrev pub RefusesNamedRecord : {A : Type 0} → Option NamesFrom → List ℕ → Result A Fault → Option (List ℕ) → Type 0
+abbrev pub RefusesNamedRecord : {A : Type 0} → Option WhatIfFile → List ℕ → Result A Fault → Option (List ℕ) → Type 0
 RefusesNamedRecord None file result before = RefusesRecord result before
 RefusesNamedRecord (Some (names_from.Program path)) file result before = RefusesAgainst file result before
+RefusesNamedRecord (Some (names_from.Record path)) file result before = RefusesRecord result before
 RefusesNamedRecord (Some (names_from.Names path)) file result before = RefusesRenamed file result before

@@ -1,5 +1,5 @@
 -- What is noted of behaviours that ended by a fault, beside what a command answers.
-use Rattle.std.specs.Prelude.{◌≡◌, ℕ, ℤ, Bool, true, false, List, [], ◌∷◌, ◌++◌, map, Option, codes}
+use Rattle.std.specs.Prelude.{◌≡◌, ◌⊎◌, ℕ, ℤ, Bool, true, false, List, [], ◌∷◌, ◌++◌, map, Option, codes}
 use Rattle.boc_program.specs.declared.program.Program.{Program}
 use Rattle.boc_busy.specs.declared.timed.TimedRows.{TimedRows}
 use Rattle.boc_eval.specs.Faulted.{EndsAs, FaultedRow}
@@ -17,7 +17,12 @@ use Rattle.boc_words.specs.declared.asked.AskedCowns.{AskedCowns}
 use Rattle.boc_words.specs.declared.asked.AskedPlans.{AskedPlans}
 use Rattle.boc_words.specs.declared.asked.AskedWhy.{AskedWhy}
 use Rattle.boc_words.specs.declared.asked.RunFile.{RunFile}
-use Rattle.boc_commands.specs.Answers.{IsProfileAnswer, IsValuesAnswer}
+use Rattle.boc_plans.specs.Seen.{seen}
+use Rattle.boc_names.specs.declared.names.Names.{Names}
+use Rattle.boc_words.specs.declared.asked.AskedProfile.{AskedProfile}
+use Rattle.boc_commands.specs.declared.program_input.Supplied.{Supplied}
+use Rattle.boc_commands.specs.Answers.{IsProfileAnswer, IsReport, IsValuesAnswer}
+use Rattle.boc_commands.specs.ProgramInputs.{IsProgramRun}
 use Rattle.boc_commands.specs.Beside.{IsValuesAfterAnswer}
 use Rattle.boc_commands.specs.CownsAnswers.{IsCownsAnswer}
 use Rattle.boc_commands.specs.Promises.{IsRunAnswer, IsTimeAnswer}
@@ -93,6 +98,19 @@ pub record TellsTime (schedule : Schedule) (sharing : Sharing) (asked : AskedPla
 pub record TellsProfile (sharing : Sharing) (asked : AskedPlans) (quiet : Bool) (notes input output : Text) : Type 0 where
   pub answer : IsProfileAnswer sharing asked input output
   pub noted : AreWanted quiet (λ told. told ≡ notes_of_rows [] answer.recorded.rows) notes
+
+-- the report on the run of a program, and the notes on its rows, by their names
+pub record TellsProgramProfile (asked : AskedProfile) (supplied : Supplied) (file notes input output : Text) : Type 0 where
+  pub recorded : Recorded
+  pub names : Names
+  pub run : IsProgramRun asked.schedule supplied file input recorded names
+  pub report : IsReport (seen asked.sharing recorded.rows) asked.plans output
+  pub noted : AreWanted asked.quiet (λ told. told ≡ notes_of_rows (texts_of names.rows.items) recorded.rows) notes
+
+-- the report on a record, or on the run of a program
+abbrev pub TellsProfileOf : AskedProfile → Supplied → Text → Text → Text → Text → Type 0
+TellsProfileOf asked supplied file notes input output =
+    TellsProfile asked.sharing asked.plans asked.quiet notes input output ⊎ TellsProgramProfile asked supplied file notes input output
 
 -- the notes on rows that are called so, and behind them the one on the span of the timed run by so many workers with which theirs is compared, if it is
 pub record AreWhyNotes (sharing : Sharing) (compared : Option ℕ) (input : Text) (called : List Text) (rows : List Row) (notes : Text) : Type 0 where

@@ -17,12 +17,15 @@ use Rattle.boc_why_report.specs.ShortTexts.{short_text}
 use Rattle.boc_words.specs.declared.asked.AskedCown.{AskedCown}
 use Rattle.boc_words.specs.declared.asked.AskedEdit.{AskedEdit}
 use Rattle.boc_words.specs.declared.asked.AskedPlans.{AskedPlans}
-use Rattle.boc_words.specs.declared.asked.NamesFrom.{NamesFrom}
+use Rattle.boc_words.specs.declared.asked.WhatIfFile.{WhatIfFile}
 use Rattle.boc_commands.specs.declared.fault.Fault.{Fault}
 use Rattle.boc_commands.specs.declared.fault.Fault.TheVariants as faults
 use Rattle.boc_commands.specs.declared.fault.InputFault.TheVariants as inputs
 use Rattle.boc_commands.specs.Answers.{IsReport}
+use Rattle.boc_words.specs.declared.schedule.Schedule.{Schedule}
+use Rattle.boc_commands.specs.declared.program_input.Supplied.{Supplied}
 use Rattle.boc_commands.specs.NamedRuns.{IsNamedRecord, RefusesNamedRecord}
+use Rattle.boc_commands.specs.ProgramInputs.{IsOfProgramRun, IsProgramRun, supplied_to}
 use Rattle.boc_commands.specs.Asked.{AreAskedFor, IsOfCowns, IsOfEdits, all_cowns, cowns_of}
 
 -- ---- what is told
@@ -99,7 +102,7 @@ RefusesAsked names cowns edits rows (Err fault) = IsOfAsked names cowns edits ro
 
 -- the input is the text of a record, whose rows and cowns have names from the file beside it, if there is one, and the output tells of its rows after these
 -- changes
-pub record IsWhatIfAnswer (file : Option NamesFrom) (bytes : List ℕ) (cowns : List AskedCown) (edits : List AskedEdit) (sharing : Sharing)
+pub record IsWhatIfAnswer (file : Option WhatIfFile) (bytes : List ℕ) (cowns : List AskedCown) (edits : List AskedEdit) (sharing : Sharing)
     (plans : AskedPlans) (short : Bool) (input output : List ℕ) : Type 0 where
   pub recorded : Recorded
   pub names : Names
@@ -107,7 +110,7 @@ pub record IsWhatIfAnswer (file : Option NamesFrom) (bytes : List ℕ) (cowns : 
   pub report : IsWhatIfReport names cowns edits sharing plans short recorded.rows output
 
 -- the source told the text of a record, if it told any, and what is asked for is refused with this fault, in the names that the record has
-pub record RefusesSupposed (file : Option NamesFrom) (bytes : List ℕ) (cowns : List AskedCown) (edits : List AskedEdit) (fault : Fault)
+pub record RefusesSupposed (file : Option WhatIfFile) (bytes : List ℕ) (cowns : List AskedCown) (edits : List AskedEdit) (fault : Fault)
     (before : Option (List ℕ)) : Type 0 where
   pub recorded : Recorded
   pub names : Names
@@ -115,7 +118,7 @@ pub record RefusesSupposed (file : Option NamesFrom) (bytes : List ℕ) (cowns :
   pub unfit : IsOfAsked names cowns edits recorded.rows fault
 
 -- the record is refused, or the file beside it, and then what is asked for
-abbrev pub RefusesWhatIf : {A : Type 0} → Option NamesFrom → List ℕ → List AskedCown → List AskedEdit → Result A Fault → Option (List ℕ) → Type 0
+abbrev pub RefusesWhatIf : {A : Type 0} → Option WhatIfFile → List ℕ → List AskedCown → List AskedEdit → Result A Fault → Option (List ℕ) → Type 0
 RefusesWhatIf file bytes cowns edits (Ok done) before = Unit {0}
 RefusesWhatIf file bytes cowns edits (Err (faults.Input (inputs.Cown number))) before =
     RefusesSupposed file bytes cowns edits (faults.Input (inputs.Cown number)) before
@@ -124,3 +127,32 @@ RefusesWhatIf file bytes cowns edits (Err (faults.Input (inputs.Edit number faul
 RefusesWhatIf file bytes cowns edits (Err (faults.Input (inputs.Def number))) before =
     RefusesSupposed file bytes cowns edits (faults.Input (inputs.Def number)) before
 RefusesWhatIf {A = A} file bytes cowns edits (Err fault) before = RefusesNamedRecord {A = A} file bytes (Err fault) before
+
+-- ---- a program
+
+-- the text spells a program, and the output tells of the rows of its run after these changes
+pub record IsProgramWhatIf (schedule : Schedule) (supplied : Supplied) (file : List ℕ) (cowns : List AskedCown) (edits : List AskedEdit) (sharing : Sharing)
+    (plans : AskedPlans) (short : Bool) (input output : List ℕ) : Type 0 where
+  pub recorded : Recorded
+  pub names : Names
+  pub run : IsProgramRun schedule supplied file input recorded names
+  pub report : IsWhatIfReport names cowns edits sharing plans short recorded.rows output
+
+-- the output tells of the rows of a record after these changes, or of those of the run of a program
+abbrev pub AnswersWhatIf : Schedule → Option WhatIfFile → List ℕ → List AskedCown → List AskedEdit → Sharing → AskedPlans → Bool → List ℕ → List ℕ → Type 0
+AnswersWhatIf schedule file bytes cowns edits sharing plans short input output =
+    IsWhatIfAnswer file bytes cowns edits sharing plans short input output
+    ⊎ IsProgramWhatIf schedule (supplied_to file) bytes cowns edits sharing plans short input output
+
+-- the text spells a program, and what is asked for is refused with this fault, of the rows of its run
+pub record IsOfSupposed (schedule : Schedule) (supplied : Supplied) (file : List ℕ) (cowns : List AskedCown) (edits : List AskedEdit) (text : List ℕ)
+    (fault : Fault) : Type 0 where
+  pub recorded : Recorded
+  pub names : Names
+  pub run : IsProgramRun schedule supplied file text recorded names
+  pub unfit : IsOfAsked names cowns edits recorded.rows fault
+
+-- a fault of a program text, of its run, or of the file beside it, and then of what is asked for
+abbrev pub IsOfWhatIf : Type 0 → Schedule → Supplied → List ℕ → List AskedCown → List AskedEdit → List ℕ → Fault → Type 0
+IsOfWhatIf always_on schedule supplied file cowns edits text fault =
+    IsOfProgramRun always_on schedule supplied file text fault ⊎ IsOfSupposed schedule supplied file cowns edits text fault

@@ -1,8 +1,8 @@
-// The command `sweep` with its best lines alone.
+// The command `sweep` with its best lines alone, for a record without names.
 
 ghost use Rattle.std.specs.Prelude.{◌≡◌, ◌++◌, ◌<◌, ◌^◌, All, IfOk, OnOk, take};
 ghost use Rattle.boc_plans.specs.Seen.{seen};
-ghost use Rattle.boc_commands.specs.BestAnswers.{IsBestAnswer, IsUnswept, best_line, best_lines, gain_text};
+ghost use Rattle.boc_commands.specs.BestAnswers.{IsBestAnswer, IsUnswept, best_line, best_lines, gain_text, gains_text};
 ghost use Rattle.boc_commands.specs.Commands.{AnswersInput, Leaves, CountsSource, CountsSink, RefusesRecord};
 
 use crate::fault::Fault;
@@ -19,9 +19,7 @@ use std::thread::Threads;
 
 /// Reads the text of a record, and writes of the ends that `sweep_cmd` reports the soonest ones, this many at most, and of equal ones those with the smallest
 /// numbers first; each with its number, and by how much it is sooner than the plan ends as it is.
-///
-/// What is refused, and how long it takes, is as for `sweep_cmd`.
-pub fn best_cmd<R: Threads + Sync, S: Source, W: Sink>(
+pub(crate) fn best_cmd<R: Threads + Sync, S: Source, W: Sink>(
     rt: &R,
     alloc: Global,
     over: &Sweep,
@@ -49,8 +47,8 @@ pub fn best_cmd<R: Threads + Sync, S: Source, W: Sink>(
     Ok(())
 }
 
-// Returns where the plan of a sweep ends as it is.
-fn unswept(alloc: Global, over: &Sweep, question: &WhatIf) -> Result<u64, AllocError>
+/// Returns where the plan of a sweep ends as it is.
+pub(crate) fn unswept(alloc: Global, over: &Sweep, question: &WhatIf) -> Result<u64, AllocError>
     ensures { IfOk result (IsUnswept (seen question.now.sharing question.now.rows) over.now) }
 {
     match over {
@@ -89,13 +87,25 @@ fn best_text(
 fn put_best(text: &mut Vec<u8>, was: u64, number: u64, end: u64) -> Result<(), AllocError>
     ensures { OnOk result (text.new.items ≡ text.old.items ++ best_line was number end) }
 {
+    put_gains(text, was, number, end)?;
+    text.push(b'\n')?;
+    Ok(())
+}
+
+/// Writes the numbers in the line of an end.
+pub(crate) fn put_gains(
+    text: &mut Vec<u8>,
+    was: u64,
+    number: u64,
+    end: u64,
+) -> Result<(), AllocError>
+    ensures { OnOk result (text.new.items ≡ text.old.items ++ gains_text was number end) }
+{
     put_number(text, number)?;
     text.push(b' ')?;
     put_number(text, end)?;
     text.push(b' ')?;
-    put_gain(text, was, end)?;
-    text.push(b'\n')?;
-    Ok(())
+    put_gain(text, was, end)
 }
 
 // By how much an end is sooner than it was.

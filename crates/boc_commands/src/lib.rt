@@ -17,9 +17,11 @@ mod notes;
 mod order;
 mod outcomes;
 mod profile;
+pub mod program_input;
 mod report;
 mod run;
 mod sweep;
+mod swept_run;
 mod time;
 pub mod timed_note;
 mod values;
@@ -27,7 +29,6 @@ mod values_after;
 mod whatif;
 mod why;
 
-pub use best::best_cmd;
 pub use check::check_cmd;
 pub use check_against::check_against_cmd;
 pub use command::{file_named, run_command};
@@ -37,6 +38,7 @@ pub use fault::{Fault, FileFault, InputFault, Line, Want};
 pub use named_run::{NamedRun, Origin};
 pub use outcomes::outcomes_cmd;
 pub use profile::profile_cmd;
+pub use program_input::{Setting, Supplied};
 pub use run::run_cmd;
 pub use sweep::sweep_cmd;
 pub use time::time_cmd;
@@ -49,6 +51,7 @@ pub use why::why_cmd;
 pub use boc_progress::{Progress, Silent};
 // What the words of a command line ask for.
 pub use boc_words::{
-    AskedCown, AskedCowns, AskedDraws, AskedEdit, AskedPlans, AskedWhy, Command, CommandLine,
-    NamesFrom, RunFile, Runners, Runs, Schedule, VERSION, WordsFault, not_text, read_words,
+    AskedCown, AskedCowns, AskedCurve, AskedDraws, AskedEdit, AskedPlans, AskedProfile, AskedSweep,
+    AskedWhy, Command, CommandLine, RunFile, Runners, Runs, Schedule, VERSION, WhatIfFile,
+    WordsFault, not_text, read_words,
 };

@@ -12,8 +12,8 @@ ghost use Rattle.boc_commands.specs.Beside.{IsOfProgramFile, RefusesAgainst};
 ghost use Rattle.boc_commands.specs.Faults.{gone_of};
 ghost use Rattle.boc_commands.specs.Commands.{CountsSource, IsOfRun, RefusesRecord};
 ghost use Rattle.boc_commands.specs.NamedRuns.{HasRun, IsCounted, IsNamedRun, IsOfGiven, IsOfNamedRun, IsOfOwn, IsOfRecord, IsOfRenamed, IsOwnRun};
-ghost use Rattle.boc_commands.specs.NamedRuns.{AreFew, IsRecordNumbered, IsRefusedName, IsRenamed, IsRunGiven, IsScheduledRun, IsShort, IsTaken};
-ghost use Rattle.boc_commands.specs.NamedRuns.{HasOwnTimes, HasTimes, ReadsNamed, ReadsRun, RefusesNamedRecord};
+ghost use Rattle.boc_commands.specs.NamedRuns.{AreFew, AreRenamed, IsRecordNumbered, IsRefusedName, IsRenamed, IsRunGiven, IsScheduledRun, IsShort, IsTaken};
+ghost use Rattle.boc_commands.specs.NamedRuns.{HasOwnTimes, HasTimes, ReadsNamed, ReadsRun, RefusesNamedRecord, RefusesRenamed};
 ghost use Rattle.boc_commands.specs.NamedRuns.{of_names_file, of_record_in_memory};
 ghost use Rattle.boc_commands.specs.Schedules.{AreTimesText};
 ghost use Rattle.boc_follow.specs.Strays.{Tells};
@@ -36,7 +36,7 @@ use boc_registers::compiled::CompiledProgram;
 use boc_runs::record::Record;
 use boc_runs::rows::Rows;
 use boc_text::{Bytes, Source, TextFault, read_all};
-use boc_words::{NamesFrom, RunFile, Schedule};
+use boc_words::{RunFile, Schedule, WhatIfFile};
 use boc_workers::Gate;
 use std::alloc::{AllocError, Global};
 use std::sync::Wait;
@@ -164,8 +164,8 @@ fn of_record_in_memory(fault: RecordFault) -> Fault
     }
 }
 
-// A run by this schedule of the program that a text spells, whose rows and cowns are called as they are in the text.
-fn program_run<R: Threads + Wait + Sync, G: Gate>(
+/// A run by this schedule of the program that a text spells, whose rows and cowns are called as they are in the text.
+pub(crate) fn program_run<R: Threads + Wait + Sync, G: Gate>(
     rt: &R,
     alloc: Global,
     text: &[u8],
@@ -274,8 +274,8 @@ pub(crate) fn called(alloc: Global, defs: Vec<DefListing>) -> Result<Vec<Name>, 
     Ok(names)
 }
 
-// The run of the program that a text spells whose record a file has.
-fn given_run(
+/// The run of the program that a text spells whose record a file has.
+pub(crate) fn given_run(
     alloc: Global,
     text: &[u8],
     bytes: Vec<u8>,
@@ -301,8 +301,8 @@ fn given_run(
     })
 }
 
-// The same run, with the names that a file gives to its rows and cowns laid over those that they have.
-fn renamed(alloc: Global, run: NamedRun, file: &[u8]) -> Result<NamedRun, Fault>
+/// The same run, with the names that a file gives to its rows and cowns laid over those that they have.
+pub(crate) fn renamed(alloc: Global, run: NamedRun, file: &[u8]) -> Result<NamedRun, Fault>
     requires { AreFew run.rows run.names }
     ensures renamed { MatchResult result (IsRenamed file.now run) (IsRefusedName file.now run.names) }
     ensures kept { IfErr result (λ fault. gone_of fault ≡ None) }
@@ -329,7 +329,7 @@ fn of_names_file(fault: NamesFault) -> Fault
 pub(crate) fn named_record<S: Source>(
     alloc: Global,
     source: &mut S,
-    file: &Option<NamesFrom>,
+    file: &Option<WhatIfFile>,
     bytes: &[u8],
     progress: &mut dyn Progress,
 ) -> Result<NamedRun, Fault>
@@ -343,12 +343,27 @@ pub(crate) fn named_record<S: Source>(
         return numbered_record(alloc, source);
     };
     match file {
-        NamesFrom::Program(_) => followed_record(alloc, source, bytes, progress),
-        NamesFrom::Names(_) => {
-            let numbered = numbered_record(alloc, source)?;
-            renamed(alloc, numbered, bytes)
-        }
+        WhatIfFile::Program(_) => followed_record(alloc, source, bytes, progress),
+        WhatIfFile::Record(_) => numbered_record(alloc, source),
+        WhatIfFile::Names(_) => renamed_record(alloc, source, bytes),
     }
+}
+
+/// The record whose text a source gives, with the names that a file gives to its rows and cowns laid over their numbers.
+pub(crate) fn renamed_record<S: Source>(
+    alloc: Global,
+    source: &mut S,
+    bytes: &[u8],
+) -> Result<NamedRun, Fault>
+    requires { S.failures source.old < u64.MAX }
+    ensures read { ReadsRun (λ input recorded names. AreRenamed (λ base. IsRecordNumbered input recorded base) bytes.now names) result
+        (S.remaining source.old) (S.remaining source.new) }
+    ensures refused { RefusesRenamed bytes.now result (S.remaining source.old) }
+    ensures source { CountsSource result (S.failures source.old) (S.failures source.new) }
+    ensures kept { IfErr result (λ fault. gone_of fault ≡ None) }
+{
+    let numbered = numbered_record(alloc, source)?;
+    renamed(alloc, numbered, bytes)
 }
 
 // The record whose text a source gives, whose rows and cowns are called by their numbers.

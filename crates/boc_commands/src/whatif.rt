@@ -1,6 +1,6 @@
 // The command `whatif`.
 
-ghost use Rattle.std.specs.Prelude.{◌≡◌, ◌<◌, ◌≤◌, ℕ, All, IfErr, IfOk, List, MatchResult, None, Ok, length, true};
+ghost use Rattle.std.specs.Prelude.{◌≡◌, ◌<◌, ◌≤◌, ℕ, All, Err, IfErr, IfOk, List, MatchResult, None, Ok, length, true};
 ghost use Rattle.std.specs.List.{list_all};
 ghost use Rattle.boc_program.specs.declared.limits.TheConstants.{MOST_COWNS, MOST_ROWS};
 ghost use Rattle.boc_names.specs.declared.names.Names.{Names};
@@ -11,13 +11,16 @@ ghost use Rattle.boc_commands.specs.Asked.{AreAskedFor, IsOfEdits, is_of_row, na
 ghost use Rattle.boc_commands.specs.Commands.{AnswersInput, Leaves, CountsSource, CountsSink, RefusesRecord};
 ghost use Rattle.boc_commands.specs.Faults.{gone_of};
 ghost use Rattle.boc_commands.specs.NamedRuns.{AreFew};
-ghost use Rattle.boc_commands.specs.WhatIfAnswers.{AreChangedSo, IsAskedEnd, IsOfAsked, IsOutcome, IsShortAnswer, IsWhatIfAnswer};
+ghost use Rattle.boc_commands.specs.ProgramInputs.{RefusesEither, supplied_to};
+ghost use Rattle.boc_commands.specs.WhatIfAnswers.{AnswersWhatIf, AreChangedSo, IsAskedEnd, IsOfAsked, IsOfWhatIf, IsOutcome, IsShortAnswer, IsWhatIfAnswer};
 ghost use Rattle.boc_commands.specs.WhatIfAnswers.{IsWhatIfReport, RefusesAsked, RefusesWhatIf};
 
 use crate::fault::{Fault, InputFault};
 use crate::meant::{cowns_meant, edits_meant, owner_of};
 use crate::named_run::{NamedRun, named_record};
+use crate::program_input::{Setting, run_of_program, supplied_to};
 use crate::report::report_after;
+use boc_input::{TakesBack, program_taken};
 use boc_names::{Names, numbers_as_names};
 use boc_plans::sharing::Sharing;
 use boc_program::count::Workers;
@@ -28,8 +31,11 @@ use boc_text::{Sink, Source, put_out};
 use boc_whatif::{Unfit, WhatIf};
 use boc_why::{shares_by_def, without_all};
 use boc_why_report::{Outcome, short_text};
-use boc_words::{AskedCown, AskedEdit, AskedPlans, NamesFrom};
+use boc_words::{AskedCown, AskedEdit, AskedPlans, Schedule, WhatIfFile};
+use boc_workers::Gate;
 use std::alloc::{AllocError, Global};
+use std::sync::Wait;
+use std::thread::Threads;
 
 /// What is supposed of a run, and how it learns what becomes of it.
 #[derive(Drop)]
@@ -236,7 +242,7 @@ fn counted_record<S: Source>(alloc: Global, source: &mut S) -> Result<(Rows, u32
     Ok(read_counted(alloc, source)?)
 }
 
-// Does the command where no file is next to the record, and no row is meant or told by a name.
+// Does the command for a record with no file next to it, where no row is meant or told by a name.
 fn numbered_whatif<S: Source, W: Sink>(
     alloc: Global,
     asked: &Supposed<'_>,
@@ -258,16 +264,55 @@ fn numbered_whatif<S: Source, W: Sink>(
     numbered_report(alloc, asked, rows, cowns, sink)
 }
 
-/// Reads the text of a record, with the names that come from a file given with it, if there is one, leaves cowns out of its rows, so that they impose no order,
-/// has them change, edit by edit, and writes the report on them, as the command `profile` does; or, in short, what they take before and after.
+/// Reads a program, which it runs, or the text of a record, as the first token says, leaves cowns out of the rows of the run, so that they impose no order,
+/// has them change, edit by edit, and writes the report on them, as the command `profile` does; or, in short, what they take before and after. Names
+/// are those of the program, or for a record those that come from a file given with it, if there is one, and else numbers.
 ///
-/// A text is refused at its first faulty line, and only where it is no record's, and a file as its kind is. Of what is requested the first cown is refused that
-/// the record doesn't have, and else the first edit that the rows can't take, as those before it have made them, or that means none of them. Nothing is
-/// written unless the whole answer is ready. After a failing write a beginning of it went out. `progress` receives how many events are followed.
-pub fn whatif_cmd<S: Source, W: Sink>(
+/// A program is refused as by `run`; the text of a record at its first faulty line, and only where it is no record's; and a file as its kind is. Of what is
+/// requested the first cown is refused that the run doesn't have, and else the first edit that the rows can't take, as those before it have made them, or
+/// that means none of them. Nothing is written unless the whole answer is ready. After a failing write a beginning of it went out. `progress` receives how
+/// far a draw or the following of a record is.
+pub fn whatif_cmd<R: Threads + Wait + Sync, G: Gate, S: TakesBack, W: Sink>(
+    rt: &R,
     alloc: Global,
     asked: &Supposed<'_>,
-    file: &Option<NamesFrom>,
+    schedule: Schedule,
+    file: &Option<WhatIfFile>,
+    bytes: Vec<u8>,
+    gate: &G,
+    progress: &mut dyn Progress,
+    source: &mut S,
+    sink: &mut W,
+) -> Result<(), Fault>
+    requires source { S.failures source.old < u64.MAX }
+    requires sink { W.failures sink.old < u64.MAX }
+    ensures written { Leaves (AnswersInput (AnswersWhatIf schedule file.now bytes.items asked.now.cowns.now asked.now.edits.now asked.now.sharing
+        asked.now.plans asked.now.short) (S.remaining source.old) (S.remaining source.new)) result (W.written sink.old) (W.written sink.new) }
+    ensures refused { RefusesEither
+        (λ fault before. RefusesWhatIf {A = Unit {0}} file.now bytes.items asked.now.cowns.now asked.now.edits.now (Err fault) before)
+        (IsOfWhatIf G.always_on schedule (supplied_to file.now) bytes.items asked.now.cowns.now asked.now.edits.now) result
+        (S.remaining source.old) (S.remaining source.new) }
+    ensures source { CountsSource result (S.failures source.old) (S.failures source.new) }
+    ensures sink { CountsSink result (W.failures sink.old) (W.failures sink.new) }
+{
+    let found = program_taken(alloc, source)?;
+    let Some(text) = found else {
+        return record_whatif(alloc, asked, file, &bytes, progress, source, sink);
+    };
+    let setting = Setting {
+        schedule,
+        supplied: supplied_to(file),
+        bytes,
+    };
+    let run = run_of_program(rt, alloc, text, setting, gate, progress)?;
+    whatif_report(alloc, asked, run, sink)
+}
+
+// Does the same with the text of a record.
+fn record_whatif<S: Source, W: Sink>(
+    alloc: Global,
+    asked: &Supposed<'_>,
+    file: &Option<WhatIfFile>,
     bytes: &[u8],
     progress: &mut dyn Progress,
     source: &mut S,

@@ -5,6 +5,7 @@ ghost use Rattle.std.specs.Prelude.{◌≡◌};
 use crate::gates::{Meeting, Place, StopsAtSecondBody, StopsAtSwap};
 use crate::workers::{TRANSFER, TWO_ORDERS};
 use boc_commands::{AskedPlans, Command, Fault, Runners, Schedule, Silent, run_command};
+use boc_input::Ahead;
 use boc_plans::sharing::Sharing;
 use boc_text::Bytes;
 use boc_workers::Gate;
@@ -52,7 +53,7 @@ fn done<R: Abort + Threads + Wait + Sync, G: Gate>(
         Vec::new(alloc),
         &mut Silent,
         &mut Vec::new(alloc),
-        &mut bytes(rt, alloc, text),
+        &mut Ahead::new(alloc, bytes(rt, alloc, text)),
         sink,
     )
 }

@@ -1,4 +1,13 @@
-use Rattle.std.proofs.Common.{rules}
+use Rattle.std.proofs.Common.{List, Err, rules, subst, sym}
+use Rattle.boc_words.specs.declared.asked.AskedCown.{AskedCown}
+use Rattle.boc_words.specs.declared.asked.AskedEdit.{AskedEdit}
+use Rattle.boc_words.specs.declared.words.Command.{Command}
+use Rattle.boc_commands.specs.declared.program_input.Supplied.{Supplied}
+use Rattle.boc_commands.specs.Commands.{RefusesRecord}
+use Rattle.boc_commands.specs.EveryCommand.{RefusesCommand}
+use Rattle.boc_commands.specs.ProgramInputs.{IsOfProgramRun, RefusesEither, supplied_to}
+use Rattle.boc_commands.specs.SweepAnswers.{RefusesSweep}
+use Rattle.boc_commands.specs.WhatIfAnswers.{IsOfWhatIf, RefusesWhatIf}
 use Rattle.boc_commands.proofs.command.run_command.Goals as goal
 
 pub returns-in-Run-clause-written : goal.returns-in-Run-clause-written
@@ -18,3 +27,39 @@ returns-in-Cowns-clause-written g c = rw c.in-Cowns.is c.cowns_cmd.ensures.writt
 
 pub returns-in-Outcomes-clause-written : goal.returns-in-Outcomes-clause-written
 returns-in-Outcomes-clause-written g c = search rules
+
+pub returns-in-Profile-clause-refused : goal.returns-in-Profile-clause-refused
+returns-in-Profile-clause-refused g c =
+    subst (λ (command : Command). RefusesCommand g.G.Gate.always_on command c.args.beside.items c.profile_cmd.result (g.S.Source.remaining c.args.source.now)
+    (g.S.Source.remaining c.profile_cmd.new.source)) (sym c.in-Profile.is)
+    (subst (λ (s : Supplied). RefusesEither (λ fault bytes. RefusesRecord {A = Unit {0}} (Err fault) bytes)
+    (IsOfProgramRun g.G.Gate.always_on c.in-Profile.asked.schedule s c.args.beside.items) c.profile_cmd.result (g.S.Source.remaining c.args.source.now)
+    (g.S.Source.remaining c.profile_cmd.new.source)) c.supplied_record-supplied.ensures c.profile_cmd.ensures.refused)
+
+pub returns-in-Curve-clause-refused : goal.returns-in-Curve-clause-refused
+returns-in-Curve-clause-refused g c =
+    subst (λ (command : Command). RefusesCommand g.G.Gate.always_on command c.args.beside.items c.curve_cmd.result (g.S.Source.remaining c.args.source.now)
+    (g.S.Source.remaining c.curve_cmd.new.source)) (sym c.in-Curve.is)
+    (subst (λ (s : Supplied). RefusesEither (λ fault bytes. RefusesRecord {A = Unit {0}} (Err fault) bytes)
+    (IsOfProgramRun g.G.Gate.always_on c.in-Curve.asked.schedule s c.args.beside.items) c.curve_cmd.result (g.S.Source.remaining c.args.source.now)
+    (g.S.Source.remaining c.curve_cmd.new.source)) c.supplied_record-supplied-in-Curve.ensures c.curve_cmd.ensures.refused)
+
+pub returns-in-Sweep-clause-refused : goal.returns-in-Sweep-clause-refused
+returns-in-Sweep-clause-refused g c =
+    subst (λ (command : Command). RefusesCommand g.G.Gate.always_on command c.args.beside.items c.sweep_cmd.result (g.S.Source.remaining c.args.source.now)
+    (g.S.Source.remaining c.sweep_cmd.new.source)) (sym c.in-Sweep.is)
+    (subst (λ (s : Supplied). RefusesEither (λ fault bytes. RefusesSweep {A = Unit {0}} s c.args.beside.items (Err fault) bytes)
+    (IsOfProgramRun g.G.Gate.always_on c.in-Sweep.asked.schedule s c.args.beside.items) c.sweep_cmd.result (g.S.Source.remaining c.args.source.now)
+    (g.S.Source.remaining c.sweep_cmd.new.source)) c.supplied_by-supplied.ensures c.sweep_cmd.ensures.refused)
+
+pub returns-in-WhatIf-clause-refused : goal.returns-in-WhatIf-clause-refused
+returns-in-WhatIf-clause-refused g c =
+    subst (λ (command : Command). RefusesCommand g.G.Gate.always_on command c.args.beside.items c.whatif_cmd.result (g.S.Source.remaining c.args.source.now)
+    (g.S.Source.remaining c.whatif_cmd.new.source)) (sym c.in-WhatIf.is)
+    (subst (λ (edits : List AskedEdit). RefusesEither (λ fault bytes. RefusesWhatIf {A = Unit {0}} c.in-WhatIf.file c.args.beside.items c.in-WhatIf.cowns.items edits (Err fault) bytes)
+    (IsOfWhatIf g.G.Gate.always_on c.in-WhatIf.schedule (supplied_to c.in-WhatIf.file) c.args.beside.items c.in-WhatIf.cowns.items edits) c.whatif_cmd.result
+    (g.S.Source.remaining c.args.source.now) (g.S.Source.remaining c.whatif_cmd.new.source)) c.deref-in-WhatIf-2.ensures.value
+    (subst (λ (cowns : List AskedCown). RefusesEither (λ fault bytes. RefusesWhatIf {A = Unit {0}} c.in-WhatIf.file c.args.beside.items cowns c.deref-in-WhatIf-2.result.now (Err fault) bytes)
+    (IsOfWhatIf g.G.Gate.always_on c.in-WhatIf.schedule (supplied_to c.in-WhatIf.file) c.args.beside.items cowns c.deref-in-WhatIf-2.result.now) c.whatif_cmd.result
+    (g.S.Source.remaining c.args.source.now) (g.S.Source.remaining c.whatif_cmd.new.source)) c.deref-in-WhatIf.ensures.value
+    c.whatif_cmd.ensures.refused))

@@ -1,15 +1,14 @@
 use Rattle.std.proofs.Common.{ℕ, List, Option, Some, None, refl, sym, subst}
 use Rattle.std.proofs.lemmas.List.{append-nil}
 use Rattle.boc_busy.specs.declared.timed.TimedRows.{TimedRows}
-use Rattle.boc_commands.specs.Commands.{CountsSource, IsOfRun, RefusesRun}
+use Rattle.boc_commands.specs.Commands.{IsOfRun}
 use Rattle.boc_runs.specs.declared.rows.Row.{Row}
 use Rattle.boc_plans.specs.Seen.{seen}
 use Rattle.boc_commands.specs.Notes.{TellsTime}
 use Rattle.boc_commands.specs.Promises.{IsTrueReport}
 use Rattle.boc_commands.specs.Schedules.{AreTimesText}
 use Rattle.boc_commands.proofs.Asked.{answers_text, leaves_as}
-use Rattle.boc_commands.proofs.Passed.{refused_run, refuses_nothing}
-use Rattle.boc_commands.proofs.Timing.{all_rows}
+use Rattle.boc_commands.proofs.Passed.{refused_run}
 use Rattle.boc_commands.proofs.time.time_cmd.Goals as goal
 
 pub returns-in_err-noted-clause-refused : goal.returns-in_err-noted-clause-refused

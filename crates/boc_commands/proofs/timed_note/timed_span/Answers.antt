@@ -1,4 +1,4 @@
-use Rattle.std.proofs.Common.{ℕ, List, Result, Ok, Err, subst, sym}
+use Rattle.std.proofs.Common.{ℕ, List, Ok, Err, subst}
 use Rattle.boc_program.specs.declared.program.Program.{Program}
 use Rattle.boc_reader.specs.FaultMeanings.{SaysOf}
 use Rattle.boc_reader.specs.Spells.{Spells}

@@ -22,8 +22,8 @@ const WHATIF: &[u8] = b"whatif";
 // The commands that read a program, and the record of a run of it from the file next to it.
 const OF_PROGRAMS: [&[u8]; 3] = [b"values", b"why", b"cowns"];
 
-// The commands that read a record, and its program from the file next to it.
-const OF_RECORDS: [&[u8]; 2] = [b"check", WHATIF];
+// The command that reads a record, and its program from the file next to it, and nothing else.
+const OF_RECORDS: &[u8] = b"check";
 
 // What the parser says of a word that is no command begins so, the word after it.
 const UNRECOGNIZED: &[u8] = b"error: unrecognized subcommand '";
@@ -164,7 +164,7 @@ fn put_files(
 fn put_option(said: &mut Said, command: &[u8], told: &[u8]) -> Told {
     let refused = told.strip_prefix(UNEXPECTED).unwrap_or(b"");
     let of_program = refused.starts_with(b"--program'") && OF_PROGRAMS.contains(&command);
-    let of_record = refused.starts_with(b"--record'") && OF_RECORDS.contains(&command);
+    let of_record = refused.starts_with(b"--record'") && command == OF_RECORDS;
     if !of_program && !of_record {
         return Ok(());
     }

@@ -53,6 +53,33 @@ pub fn explain_edit(
     said.into_text(None)
 }
 
+/// Returns what is reported of an edit that the rows of a program's run can't take, whose word this is. The program doesn't say which rows these are.
+pub fn explain_edit_of_run(
+    alloc: Global,
+    word: &str,
+    fault: EditFault,
+) -> Result<String, AllocError>
+    ensures { IfOk result (λ told. AreLines (string_bytes told)) }
+{
+    let reason = match fault {
+        EditFault::NoRow => {
+            "the run has no such row; rows count from 0, in the order of their spawns"
+        }
+        EditFault::NoParent => "row 0 is main, which no row spawns",
+        EditFault::TooManyTicks => "a row takes at most 1000000 ticks",
+        EditFault::BelowSpawn => {
+            "a row takes at least 1 tick, and at least the offset of its last child"
+        }
+        EditFault::NotBetween => {
+            "a row is spawned at a tick of its parent, between those at which its siblings are"
+        }
+    };
+    let mut said = Said::new(alloc);
+    said.set_subject(word.as_bytes())?;
+    said.about(reason, &[])?;
+    said.into_text(None)
+}
+
 // Reports why the rows of a record can't take the first of these edits that they can't.
 fn put_unfit(said: &mut Said, text: &[u8], edits: &[Edit], fault: EditFault) -> Told {
     let alloc = said.alloc;

@@ -29,7 +29,7 @@ const _: () = prove!(MOST_ROWS == 65_535);
 const _: () = prove!(MOST_TICKS == 1_000_000);
 
 pub use command_words::{explain_edit_word, explain_words};
-pub use edit::{Asked, explain_edit};
+pub use edit::{Asked, explain_edit, explain_edit_of_run};
 pub use kept::{Input, Kept};
 pub use missing::{explain_cown, explain_def};
 pub use names::{Naming, explain_names};

@@ -3,10 +3,10 @@
 ghost use Rattle.std.specs.Prelude.{IfOk, string_bytes};
 ghost use Rattle.boc_said.specs.Lines.{AreLines};
 
-use crate::names::{Naming, names_by_file, record_cowns};
+use crate::names::{Naming, names_by_file, program_cowns, record_cowns};
 use boc_names::Names;
 use boc_reader::read_listed;
-use boc_said::place::Text;
+use boc_said::place::{Text, looks_like_program};
 use boc_said::said::Part::{Bytes, Number, Quote, Words};
 use boc_said::said::{MOST_QUOTE, Said, Told};
 use boc_text::read_number;
@@ -37,19 +37,30 @@ pub fn explain_cown(
         Naming::Names(file) => named_in(alloc, text, file, false)?,
         Naming::Numbers => None,
     };
-    match (known, record_cowns(text.bytes)) {
+    match (known, counted(alloc, text.bytes)?) {
         (Some(known), _) => put_missing(&mut said, "no cown is called ", name, known)?,
-        (None, Some(0)) => {
+        (None, Some((whose, 0))) => {
             said.set_subject(name)?;
-            said.about("the record has no cowns", &[])?;
+            said.about("the {} has no cowns", &[Words(whose)])?;
         }
-        (None, Some(count)) => said.tell(
-            "no cown is called {}; the record has cowns 0 to ",
-            &[Quote(name), Number(u64::from(count).saturating_sub(1))],
+        (None, Some((whose, count))) => said.tell(
+            "no cown is called {}; the {} has cowns 0 to ",
+            &[Quote(name), Words(whose), Number(count.saturating_sub(1))],
         )?,
         (None, None) => {}
     }
     said.into_text(None)
+}
+
+// What an input is, and how many cowns it has, the members of arrays counted.
+fn counted(alloc: Global, text: &[u8]) -> Result<Option<(&'static str, u64)>, AllocError> {
+    if let Some(count) = record_cowns(text) {
+        return Ok(Some(("record", u64::from(count))));
+    }
+    Ok(match program_cowns(alloc, text)? {
+        Some(count) => Some(("program", count)),
+        None => None,
+    })
 }
 
 /// Returns what is reported of a def that no row of a record is of, called so.
@@ -72,6 +83,13 @@ pub fn explain_def(
             None
         }
         Naming::Program(program) => defs_of(alloc, program)?,
+        Naming::Names(_) if looks_like_program(text.bytes) => {
+            said.tell(
+                "no row belongs to a def {}; names in --names FILE replace those of the program",
+                &[Quote(name)],
+            )?;
+            None
+        }
         Naming::Names(file) => named_in(alloc, text, file, true)?,
     };
     if let Some(known) = known {

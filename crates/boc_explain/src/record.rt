@@ -35,7 +35,7 @@ pub fn explain_record(
     } else if fault.line == 1 && looks_like_program(text.bytes) {
         put_program(&mut said, place)?;
     } else if let Some(line) = line_at(text, fault.line) {
-        put_fault(&mut said, text.bytes, line, fault)?;
+        put_fault(&mut said, text.bytes, line, place.command, fault)?;
     }
     said.into_text(text.name)
 }
@@ -47,15 +47,34 @@ fn put_program(said: &mut Said, place: Place<'_>) -> Told {
             "this looks like a program; --record takes a record: boc run FILE > RECORD",
         );
     }
+    if reads_both(place.command) {
+        return said.words(PROGRAM_BEGINS);
+    }
     if place.is_of_pair() {
         return put_pair(said, place, false);
     }
-    let is_whatif = place.command.as_bytes() == b"whatif".as_slice();
-    let file = if is_whatif { " --program FILE" } else { "" };
     said.tell(
         "this looks like a program; {} reads records: boc run FILE | boc {}",
-        &[Words(place.command), Words(place.command), Words(file)],
+        &[Words(place.command), Words(place.command)],
     )
+}
+
+// How the input of a command begins that reads either.
+const PROGRAM_BEGINS: &str =
+    "a program begins with `cown`, `def` or `main`, after comments; all else is read as a record";
+
+// Reports how a program begins, where the first line begins no record either.
+fn put_other(said: &mut Said, line: &[u8], command: &str) -> Told {
+    if line.starts_with(b"boc") || !reads_both(command) {
+        return Ok(());
+    }
+    said.words(PROGRAM_BEGINS)
+}
+
+// The input of this command is a program or a record, as its first word says.
+fn reads_both(command: &str) -> bool {
+    let commands: [&[u8]; 4] = [b"profile", b"whatif", b"curve", b"sweep"];
+    commands.iter().any(|name| *name == command.as_bytes())
 }
 
 /// Returns whether the text of a record is of the first version, in which ends have no cowns.
@@ -63,10 +82,13 @@ pub(crate) fn is_first_version(text: &[u8]) -> bool {
     text.starts_with(b"boc 1")
 }
 
-fn put_fault(said: &mut Said, text: &[u8], line: &[u8], fault: RecordFault) -> Told {
+fn put_fault(said: &mut Said, text: &[u8], line: &[u8], command: &str, fault: RecordFault) -> Told {
     said.set_subject(line)?;
     match fault.kind {
-        RecordFaultKind::Header => put_header(said, line),
+        RecordFaultKind::Header => {
+            put_header(said, line)?;
+            put_other(said, line, command)
+        }
         RecordFaultKind::Form => put_form(said, line, is_first_version(text)),
         RecordFaultKind::After => {
             let reason = if line.starts_with(b"boc ") {

@@ -1,14 +1,16 @@
 //! What is reported below the line of a fault.
 
 use boc_commands::{
-    AskedCown, AskedEdit, Command, Fault, InputFault, NamesFrom, RunFile, Schedule, WordsFault,
+    AskedCown, AskedEdit, Command, Fault, InputFault, RunFile, Schedule, WhatIfFile, WordsFault,
     file_named,
 };
 use boc_explain::{
-    Asked, Kept, Naming, explain_cown, explain_def, explain_edit, explain_edit_word, explain_words,
+    Asked, Kept, Naming, explain_cown, explain_def, explain_edit, explain_edit_of_run,
+    explain_edit_word, explain_words,
 };
 use boc_explain_program::{AtDepth, explain_behaviours};
 use boc_front::{Sources, drawn_at_depth, explain_input};
+use boc_input::begins_program;
 use boc_plans::edit::{Change, Edit, EditFault, Part};
 use boc_said::place::Beside;
 use boc_workers::RunFault;
@@ -71,6 +73,10 @@ pub(crate) fn explained(
 fn depth_of(command: &Command) -> Option<AtDepth> {
     match command {
         Command::Run { schedule, .. } | Command::Time { schedule, .. } => drawn_at_depth(schedule),
+        Command::Profile { asked, .. } => drawn_at_depth(&asked.schedule),
+        Command::WhatIf { schedule, .. } => drawn_at_depth(schedule),
+        Command::Curve { asked, .. } => drawn_at_depth(&asked.schedule),
+        Command::Sweep { asked, .. } => drawn_at_depth(&asked.schedule),
         Command::Why { asked, .. } => drawn_at_depth(&asked.schedule),
         Command::Cowns { asked, .. } => drawn_at_depth(&asked.schedule),
         Command::Outcomes(draws) => drawn_at_depth(&Schedule::Drawn {
@@ -99,15 +105,34 @@ pub(crate) fn beside_of(command: &Command) -> Option<Beside> {
     match command {
         Command::Check { program: Some(_) }
         | Command::WhatIf {
-            names: Some(NamesFrom::Program(_)),
+            file: Some(WhatIfFile::Program(_)),
             ..
         } => Some(Beside::Program),
         Command::Values {
             record: Some(_),
             ..
+        }
+        | Command::Profile {
+            record: Some(_),
+            ..
+        }
+        | Command::WhatIf {
+            file: Some(WhatIfFile::Record(_)),
+            ..
+        }
+        | Command::Curve {
+            record: Some(_),
+            ..
         } => Some(Beside::Record),
-        Command::WhatIf { names: Some(_), .. } => Some(Beside::Names),
-        Command::Why {
+        Command::WhatIf {
+            file: Some(WhatIfFile::Names(_)),
+            ..
+        } => Some(Beside::Names),
+        Command::Sweep {
+            file: Some(file),
+            ..
+        }
+        | Command::Why {
             file: Some(file),
             ..
         }
@@ -122,15 +147,17 @@ pub(crate) fn beside_of(command: &Command) -> Option<Beside> {
     }
 }
 
-// By what `whatif` calls rows and cowns, if all of the file that says it is known.
-fn naming_of<'a>(names: &Option<NamesFrom>, texts: &'a Texts) -> Option<Naming<'a>> {
+// By what `whatif` calls rows and cowns, if all of the text that says it is known.
+fn naming_of<'a>(file: &Option<WhatIfFile>, texts: &'a Texts) -> Option<Naming<'a>> {
     if !texts.beside.is_whole() {
         return None;
     }
-    Some(match names {
-        Some(NamesFrom::Program(_)) => Naming::Program(texts.beside.as_slice()),
-        Some(NamesFrom::Names(_)) => Naming::Names(texts.beside.as_slice()),
-        None => Naming::Numbers,
+    let input = texts.input.as_slice();
+    Some(match file {
+        Some(WhatIfFile::Names(_)) => Naming::Names(texts.beside.as_slice()),
+        _ if begins_program(input) => Naming::Program(input),
+        Some(WhatIfFile::Program(_)) => Naming::Program(texts.beside.as_slice()),
+        Some(WhatIfFile::Record(_)) | None => Naming::Numbers,
     })
 }
 
@@ -141,11 +168,11 @@ fn missing_cown(
     texts: &Texts,
     number: usize,
 ) -> Result<String, AllocError> {
-    let Command::WhatIf { cowns, names, .. } = command else {
+    let Command::WhatIf { cowns, file, .. } = command else {
         return Ok(String::new(alloc));
     };
     let input = texts.input.text(None);
-    let naming = naming_of(names, texts).unwrap_or(Naming::Numbers);
+    let naming = naming_of(file, texts).unwrap_or(Naming::Numbers);
     match cowns.get(number.saturating_sub(1)) {
         Some(AskedCown::Number(cown)) => {
             let name = cown.to_string(alloc)?;
@@ -164,16 +191,19 @@ fn refused_edit(
     number: usize,
     fault: EditFault,
 ) -> Result<String, AllocError> {
-    let Command::WhatIf { edits, names, .. } = command else {
+    let Command::WhatIf { edits, file, .. } = command else {
         return Ok(String::new(alloc));
     };
-    let Some(naming) = naming_of(names, texts) else {
+    let Some(naming) = naming_of(file, texts) else {
         return Ok(String::new(alloc));
     };
     let word = match edits.get(number.saturating_sub(1)) {
         Some(edit) => word_of(alloc, edit)?,
         None => return Ok(String::new(alloc)),
     };
+    if begins_program(texts.input.as_slice()) {
+        return explain_edit_of_run(alloc, &word, fault);
+    }
     let asked = asked_edits(alloc, edits, number)?;
     explain_edit(alloc, texts.input.text(None), naming, &word, &asked, fault)
 }
@@ -228,10 +258,10 @@ fn missing_def(
     texts: &Texts,
     number: usize,
 ) -> Result<String, AllocError> {
-    let Command::WhatIf { edits, names, .. } = command else {
+    let Command::WhatIf { edits, file, .. } = command else {
         return Ok(String::new(alloc));
     };
-    match (edits.get(number.saturating_sub(1)), naming_of(names, texts)) {
+    match (edits.get(number.saturating_sub(1)), naming_of(file, texts)) {
         (Some(AskedEdit::Def { name, .. }), Some(naming)) => {
             explain_def(alloc, texts.input.text(None), naming, name)
         }

@@ -5,13 +5,15 @@ mod explaining;
 
 use crate::explaining::{Texts, beside_of, explained, explained_words};
 use boc_commands::{
-    Command, Fault, Schedule, Want, WordsFault, file_named, read_words, run_command,
+    Command, Fault, RunFile, Schedule, Want, WhatIfFile, WordsFault, file_named, read_words,
+    run_command,
 };
 use boc_explain::{Input, Kept};
 use boc_front::{
-    Given, MOST_INPUT, Meter, STACK, Stop, Watch, ended, idle_note, printed_words, read_beside,
-    words_given,
+    Given, MOST_INPUT, Meter, STACK, Stop, Watch, ended, idle_file_note, idle_note,
+    idle_note_beside, printed_words, read_beside, words_given,
 };
+use boc_input::Ahead;
 use boc_text::Counted;
 use std::alloc::AllocError;
 use std::fs::File;
@@ -59,7 +61,8 @@ fn answer<T: Read + Drop>(
 ) -> Result<(), Stop> {
     let mut kept = Kept::new(rt.alloc());
     kept.keep(&beside);
-    let mut input = Input::new(rt.alloc(), input.take(MOST_INPUT));
+    let input = Input::new(rt.alloc(), input.take(MOST_INPUT));
+    let mut input = Ahead::new(rt.alloc(), input);
     let mut output = Counted::new(rt.stdout());
     let mut meter = Meter::new(rt);
     let watch = Watch::new(threads, Meter::new(rt));
@@ -79,10 +82,12 @@ fn answer<T: Read + Drop>(
     meter.wipe();
     let Err(fault) = done else {
         note(rt, &notes);
-        note(rt, note_of(command, given, input.is_of_record()).as_bytes());
+        let is_record = input.inner().is_of_record();
+        note(rt, note_of(command, given, is_record).as_bytes());
+        note(rt, file_note_of(command, is_record).as_bytes());
         return Ok(());
     };
-    let (input, error) = input.into_parts();
+    let (input, error) = input.into_inner().into_parts();
     if let (Fault::Means(Want::Source), Some(path), Some(error)) = (&fault, path, error) {
         return file_stop(rt, path, error, Some(command));
     }
@@ -106,6 +111,17 @@ fn note_of(command: &Command, given: Given, is_record: bool) -> &'static str {
             quiet: false,
             ..
         } => idle_note(*schedule, &None, given, false),
+        Command::Profile { asked, record } if !asked.quiet => {
+            idle_note_beside(asked.schedule, record.is_some(), given, is_record)
+        }
+        Command::WhatIf { schedule, file, .. } => {
+            let is_beside = matches!(file, Some(WhatIfFile::Record(_)));
+            idle_note_beside(*schedule, is_beside, given, is_record)
+        }
+        Command::Curve { asked, record } => {
+            idle_note_beside(asked.schedule, record.is_some(), given, is_record)
+        }
+        Command::Sweep { asked, file } => idle_note(asked.schedule, file, given, is_record),
         Command::Why { asked, file } if !asked.quiet => {
             idle_note(asked.schedule, file, given, is_record)
         }
@@ -120,6 +136,33 @@ fn note_of(command: &Command, given: Given, is_record: bool) -> &'static str {
             };
             idle_note(schedule, &None, given, false)
         }
+        _ => "",
+    }
+}
+
+// Returns the note on a file given with an input that has no use for it; no text where there is nothing to note.
+fn file_note_of(command: &Command, is_record: bool) -> &'static str {
+    match command {
+        Command::Profile {
+            asked,
+            record: Some(_),
+        } if !asked.quiet => idle_file_note(true, is_record),
+        Command::WhatIf {
+            file: Some(WhatIfFile::Record(_)),
+            ..
+        }
+        | Command::Curve {
+            record: Some(_),
+            ..
+        }
+        | Command::Sweep {
+            file: Some(RunFile::Record(_)),
+            ..
+        } => idle_file_note(true, is_record),
+        Command::WhatIf {
+            file: Some(WhatIfFile::Program(_)),
+            ..
+        } => idle_file_note(false, is_record),
         _ => "",
     }
 }
@@ -149,7 +192,7 @@ fn words_stop<T>(rt: HostRuntime, words: &[String], fault: WordsFault) -> Result
 
 // What is reported of a file that isn't there, where its word may have been meant as an edit.
 const WHICH_FILE: &str =
-    "     a word with neither = nor @ is the FILE with the record; an edit is ROW=TICKS, ROW@OFFSET, ROW=K/D or DEF=K/D";
+    "     a word with neither = nor @ is the FILE with the input; an edit is ROW=TICKS, ROW@OFFSET, ROW=K/D or DEF=K/D";
 
 // Returns why a file with this path can't be read: that with the input of a command, if one is given.
 fn file_stop<T>(

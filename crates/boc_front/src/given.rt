@@ -22,6 +22,14 @@ const TIMED_OF_FILE: &str =
 const OF_ONE: &str =
     "boc: note: one worker leaves nothing to draw: --seed and --depth have no effect; give --workers at least 2\n";
 
+// What is noted where a record came in, and one is next to it.
+const RECORD_OF_RECORD: &str =
+    "boc: note: the input is a record, which is not run again: --record has no effect\n";
+
+// What is noted where a program came in, and one is next to it.
+const PROGRAM_OF_PROGRAM: &str =
+    "boc: note: the input is a program, whose names are known: --program has no effect\n";
+
 /// Which of the words that say how a program is run are on a command line.
 #[derive(Clone, Copy, PartialEq, Eq, Debug)]
 pub struct Given {
@@ -73,6 +81,16 @@ pub fn idle_note(
     is_record: bool,
 ) -> &'static str {
     let is_beside = matches!(file, Some(RunFile::Record(_)));
+    idle_note_beside(schedule, is_beside, given, is_record)
+}
+
+/// Returns the same note, where it is known whether the file given with the input is the record of the run.
+pub fn idle_note_beside(
+    schedule: Schedule,
+    is_beside: bool,
+    given: Given,
+    is_record: bool,
+) -> &'static str {
     if let Schedule::Timed(_) = schedule {
         return if is_record {
             TIMED_OF_RECORD
@@ -92,6 +110,15 @@ pub fn idle_note(
     }
     match schedule {
         Schedule::Drawn { workers, .. } if is_drawn && workers.number() == 1 => OF_ONE,
+        _ => "",
+    }
+}
+
+/// Returns the note, with its line feed, on a file given with an input of its own kind, which is left aside; no text where it is of the other kind.
+pub fn idle_file_note(is_record_beside: bool, is_record: bool) -> &'static str {
+    match (is_record_beside, is_record) {
+        (true, true) => RECORD_OF_RECORD,
+        (false, false) => PROGRAM_OF_PROGRAM,
         _ => "",
     }
 }

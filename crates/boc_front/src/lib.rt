@@ -14,7 +14,7 @@ mod words;
 
 pub use beside::{MOST_INPUT, read_beside};
 pub use explaining::{Sources, drawn_at_depth, explain_input};
-pub use given::{Given, idle_note};
+pub use given::{Given, idle_file_note, idle_note, idle_note_beside};
 pub use meter::Meter;
 pub use printing::printed_words;
 pub use stop::{Stop, ended};

@@ -963,6 +963,17 @@ EDITS = [
     (["--without", "log"], "without 1: 6 NoCown", ["no cown is called `log`; the record has cowns 0 to 1"]),
 ]
 
+# Words for the program of the transfer itself, which is run: its text doesn't say which rows there are.
+RUN_EDITS = [
+    (["9=1"], "edit 1: 1 NoRow", ["`9=1`: the run has no such row; rows count from 0, in the order of their spawns"]),
+    (["0=3"], "edit 1: 2 BelowSpawn", ["`0=3`: a row takes at least 1 tick, and at least the offset of its last child"]),
+    (["add=1000/1", "add=1000/1"], "edit 2: 3 TooManyTicks", ["`add=1000/1`: a row takes at most 1000000 ticks"]),
+    (["0@3"], "edit 1: 4 NoParent", ["`0@3`: row 0 is main, which no row spawns"]),
+    (["2@4"], "edit 1: 5 NotBetween", ["`2@4`: a row is spawned at a tick of its parent, between those at which its siblings are"]),
+    (["--without", "7"], "without 1: 6 NoCown", ["no cown is called `7`; the program has cowns 0 to 1"]),
+    (["--without", "log"], "without 1: 6 NoCown", ["no cown is called `log`; the program's cowns are a, b"]),
+]
+
 # Edits of defs, of the record of the transfer beside its program: row 0 is of main, rows 1 and 3 are of `add`, and row 2 is of `move`.
 DEF_EDITS = [
     (["main=1/2", "0=1"], "edit 2: 2 BelowSpawn", ["`0=1`: row 0 spawns row 3 at its tick 3, so it takes at least 3 ticks"]),
@@ -1298,6 +1309,19 @@ def beside(program):
         yield name, told_in_file(program, words, option, content, source, fault, lines)
     lines = [NAMES_ARE, "no row belongs to a def `mov`; without either file each row is a def of its own, such as `row 0`"]
     yield "a def without names", difference(told("edit 1: 7 NoDef", lines), program.run(["whatif", "mov=1/2"], record))
+    for words, fault, lines in RUN_EDITS:
+        yield f"{words} of a program", difference(told(fault, lines), program.run(["whatif", *words], program.example("transfer.boc")))
+    for words, fault, lines in [
+        (["--without", "b"], "without 1: 6 NoCown", ["no cown is called `b`; the program has cowns 0 to 1"]),
+        (["mov=1/2"], "edit 1: 7 NoDef", [NAMES_ARE, "no row belongs to a def `mov`; names in --names FILE replace those of the program"]),
+        (["2@4"], "edit 1: 5 NotBetween", [RUN_EDITS[4][2][0]]),
+    ]:
+        text = program.example("transfer.boc")
+        yield f"{words} of a program with names", told_in_file(program, ["whatif", *words], "--names", b"@ 1 pot\n", text, fault, lines)
+    for command in ["profile", "whatif", "curve", "sweep", "check"]:
+        lines = ["`cwon a = 1;`: the first line of a record is `boc 2 COWNS`"]
+        lines += ["a program begins with `cown`, `def` or `main`, after comments; all else is read as a record"] if command != "check" else []
+        yield f"{command} of a word", difference(told("line 1: 1 Header", lines), program.run([command], b"cwon a = 1;\nmain { }\n"))
     for words, fault, lines in DEF_EDITS:
         yield f"whatif {words}", difference(told(fault, lines), program.run_beside(["whatif", *words], "--program", text, record))
     lines = ["`row 1=1000/1`: row 1 takes 2000 ticks; the edit would exceed the limit of 1000000"]
@@ -1352,9 +1376,11 @@ def pairs(program):
             yield f"{' '.join(words)}: {lines}", told_in_file(program, words, "--record", content, source, fault, lines)
     for command in ("check", "whatif"):
         reads = f"{command} reads the record, and --program its program: boc {command} --program PROGRAM RECORD"
-        for content, source, fault, lines in ((record, text, "program: line 14: 2 BadToken", [f"this looks like a record; {reads}"]),
-                                              (record, record, "program: line 14: 2 BadToken", [f"this looks like a record; {reads}"]),
-                                              (text, text, "line 1: 1 Header", [f"this looks like a program; {reads}"])):
+        # Of a program `whatif` takes no other.
+        swapped = [(record, text, "program: line 14: 2 BadToken", [f"this looks like a record; {reads}"]),
+                   (text, text, "line 1: 1 Header", [f"this looks like a program; {reads}"])]
+        alike = (record, record, "program: line 14: 2 BadToken", [f"this looks like a record; {reads}"])
+        for content, source, fault, lines in [alike] + (swapped if command == "check" else []):
             yield f"{command}: {lines}", told_in_file(program, [command], "--program", content, source, fault, lines)
 
 
@@ -1415,8 +1441,8 @@ def words_refused(program):
 
 def options_of_others(program):
     """A command that reads a program says so where its input is named as others name it, and so does one that reads a record."""
-    for command in ("values", "why", "cowns", "check", "whatif"):
-        reads, beside = ("record", "program") if command in ("check", "whatif") else ("program", "record")
+    for command in ("values", "why", "cowns", "check"):
+        reads, beside = ("record", "program") if command == "check" else ("program", "record")
         line = f"{command} reads the {reads}, and --{beside} its {beside}: boc {command} --{beside} {beside.upper()} {reads.upper()}"
         answer = program.run([command, f"--{reads}", "a", "b"])
         is_told = answer.status == 2 and answer.errors.endswith(EXPLAINS + line.encode() + b"\n")

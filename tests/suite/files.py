@@ -40,7 +40,7 @@ AMONG_EDITS = [
 ]
 
 # What is told of a file of `whatif` that isn't there, since its word may be meant as an edit.
-WHY_FILE = "     a word with neither = nor @ is the FILE with the record; an edit is ROW=TICKS, ROW@OFFSET, ROW=K/D or DEF=K/D\n"
+WHY_FILE = "     a word with neither = nor @ is the FILE with the input; an edit is ROW=TICKS, ROW@OFFSET, ROW=K/D or DEF=K/D\n"
 
 # A program that has read as much as it wants ends at once.
 SECONDS = 20

@@ -1,65 +1,80 @@
-//! A bank on a small runtime of behaviours by threads: `rustc -O bank.rs`, and then `./bank [THREADS] [--names FILE]`.
+//! A bank on a small runtime of behaviours by threads: `rustc --edition 2021 -O bank.rs`, and then
+//! `./bank [THREADS] [--audit] [--names FILE]`.
 //!
-//! It writes the record of its run to standard output, and what its rows and cowns are called to FILE. It knows nothing of boc but the text
-//! of both, which docs/RECORDS.md has; docs/RECORDING.md says what a runtime has to log, and where. A tick is a microsecond.
+//! It writes the record of its run to standard output, and what its rows and cowns are called to FILE. recorders/boc_record.rs records;
+//! docs/RECORDING.md says where its calls belong. A tick is a microsecond.
 
+#[path = "../../recorders/boc_record.rs"]
+mod boc_record;
+
+use boc_record::{Def, How, Mode, Options, Recorder, Row, Thread};
 use std::collections::VecDeque;
-use std::fmt::Write as _;
-use std::sync::atomic::{AtomicU32, AtomicUsize, Ordering};
+use std::sync::atomic::{AtomicUsize, Ordering};
 use std::sync::{Arc, Condvar, Mutex};
 use std::time::{Duration, Instant};
 
-/// A number, and the behaviours that asked for it: the first of them holds it, or will hold it once it has its other cowns too.
+/// A run that takes longer hangs.
+const PATIENCE: Duration = Duration::from_secs(10);
+
+/// A number, and the behaviours that asked for it.
 struct Cown {
     name: String,
-    /// Only who holds the cown locks its value, so nobody ever waits for this lock.
+    /// Only the behaviour that holds the cown locks its value, so no thread ever waits for this lock.
     value: Mutex<i64>,
-    requests: Mutex<VecDeque<Arc<Behaviour>>>,
+    queue: Mutex<Queue>,
+}
+
+/// The first behaviour here holds the cown, or will hold it once it has its other cowns too.
+struct Queue {
+    waiting: VecDeque<Arc<Behaviour>>,
+    asked: boc_record::Cown,
 }
 
 type Body = fn(&mut Running, &[i64]);
 
+const CODES: [(&str, Body); 4] = [
+    ("main", main_body),
+    ("day", day),
+    ("transfer", transfer),
+    ("audit", audit),
+];
+const MAIN: usize = 0;
+const DAY: usize = 1;
+const TRANSFER: usize = 2;
+const AUDIT: usize = 3;
+
 /// A body with its arguments and its cowns, from its spawn to its end.
 struct Behaviour {
-    name: &'static str,
     body: Body,
     arguments: Vec<i64>,
     /// The numbers of its cowns, as its body has them.
     cowns: Vec<usize>,
-    parent: u32,
-    offset: u64,
-    row: AtomicU32,
+    row: Row,
     missing: AtomicUsize,
 }
 
 impl Behaviour {
-    fn row(&self) -> u32 {
-        self.row.load(Ordering::Relaxed)
+    /// Takes this many more cowns, and returns whether none is missing any more.
+    fn gets(&self, count: usize) -> bool {
+        self.missing.fetch_sub(count, Ordering::AcqRel) == count
     }
+}
 
-    /// Its cowns in the order in which they are logged and locked.
-    fn rising(&self) -> Vec<usize> {
-        let mut cowns = self.cowns.clone();
-        cowns.sort_unstable();
-        cowns
-    }
-
-    /// Takes one more cown, and tells whether it was the last one missing.
-    fn gets_one(&self) -> bool {
-        self.missing.fetch_sub(1, Ordering::AcqRel) == 1
-    }
+/// The places of cowns in the order of their numbers, in which they are locked.
+fn rising(cowns: &[usize]) -> Vec<usize> {
+    let mut places: Vec<usize> = (0..cowns.len()).collect();
+    places.sort_unstable_by_key(|&place| cowns[place]);
+    places
 }
 
 /// A behaviour as its body sees it: the body reads and writes its cowns, by their places in the list, and spawns others.
-struct Running<'a> {
-    runtime: &'a Runtime,
-    behaviour: &'a Behaviour,
-    began: Instant,
-    last_offset: u64,
-    written: Vec<usize>,
+struct Running<'a, 'b> {
+    runtime: &'b Runtime<'a>,
+    thread: &'b mut Thread<'a>,
+    behaviour: &'b Behaviour,
 }
 
-impl Running<'_> {
+impl Running<'_, '_> {
     fn read(&self, place: usize) -> i64 {
         *self.runtime.cowns[self.behaviour.cowns[place]]
             .value
@@ -70,43 +85,14 @@ impl Running<'_> {
     fn write(&mut self, place: usize, value: i64) {
         let cown = self.behaviour.cowns[place];
         *self.runtime.cowns[cown].value.lock().unwrap() = value;
-        if !self.written.contains(&cown) {
-            self.written.push(cown);
-        }
+        self.thread.wrote(self.behaviour.row, place);
     }
 
-    /// Spawns a behaviour, and goes on at once. Offsets rise, though two spawns may fall into one microsecond.
-    fn when(&mut self, name: &'static str, body: Body, arguments: &[i64], cowns: &[usize]) {
-        self.last_offset = self.microseconds().max(self.last_offset + 1);
-        self.runtime.spawn(
-            name,
-            body,
-            arguments,
-            cowns,
-            self.behaviour.row(),
-            self.last_offset,
-        );
+    /// Spawns a behaviour, and continues at once.
+    fn when(&mut self, code: usize, arguments: &[i64], cowns: &[usize]) {
+        self.runtime
+            .spawn(self.thread, self.behaviour.row, code, arguments, cowns);
     }
-
-    fn microseconds(&self) -> u64 {
-        self.began.elapsed().as_micros() as u64
-    }
-}
-
-enum Event {
-    Spawn(Arc<Behaviour>),
-    Start(Arc<Behaviour>),
-    End {
-        row: u32,
-        ticks: u64,
-        written: Vec<usize>,
-    },
-}
-
-#[derive(Default)]
-struct Record {
-    rows: u32,
-    events: Vec<Event>,
 }
 
 /// The behaviours that have all their cowns, and how many there are that have not ended.
@@ -116,102 +102,100 @@ struct Work {
     alive: usize,
 }
 
-struct Runtime {
+struct Runtime<'a> {
     cowns: Vec<Cown>,
-    /// What took place, in the order that this lock makes.
-    record: Mutex<Record>,
+    recorder: &'a Recorder,
+    defs: [Def; CODES.len()],
     work: Mutex<Work>,
     work_changed: Condvar,
 }
 
-impl Runtime {
-    fn new(cowns: impl Iterator<Item = (String, i64)>) -> Self {
-        let cowns = cowns
-            .map(|(name, value)| Cown {
-                name,
-                value: Mutex::new(value),
-                requests: Mutex::default(),
-            })
-            .collect();
+impl<'a> Runtime<'a> {
+    fn new(recorder: &'a Recorder, cowns: impl Iterator<Item = (String, i64)>) -> Self {
+        let cown = |(number, (name, value)): (u32, (String, i64))| Cown {
+            name,
+            value: Mutex::new(value),
+            queue: Mutex::new(Queue {
+                waiting: VecDeque::new(),
+                asked: boc_record::Cown::new(number),
+            }),
+        };
+        let cowns: Vec<Cown> = (0..).zip(cowns).map(cown).collect();
+        for (number, cown) in (0..).zip(&cowns) {
+            recorder.name_cown(number, &cown.name);
+        }
         Runtime {
             cowns,
-            record: Mutex::default(),
+            recorder,
+            defs: CODES.map(|(name, _)| recorder.def(name)),
             work: Mutex::default(),
             work_changed: Condvar::new(),
         }
     }
 
-    /// Runs a body over no cowns, and all that it spawns.
-    fn run(&self, main: Body, threads: usize) {
-        self.spawn("main", main, &[], &[], 0, 0);
+    /// Runs main, and all that it spawns.
+    fn run(&'a self, threads: usize) {
+        self.spawn(&mut self.recorder.thread(), Row::NONE, MAIN, &[], &[]);
+        let began = Instant::now();
         std::thread::scope(|scope| {
             for _ in 0..threads {
                 scope.spawn(|| self.serve_all());
             }
+            let mut work = self.work.lock().unwrap();
+            while work.alive > 0 && began.elapsed() < PATIENCE {
+                work = self.work_changed.wait_timeout(work, PATIENCE).unwrap().0;
+            }
+            if work.alive > 0 {
+                // Threads that wait for ever can't be joined.
+                print_record(self.recorder, None);
+                std::process::exit(1);
+            }
         });
     }
 
-    /// Makes a behaviour, gives it its row, and has it ask for all its cowns at once.
+    /// Makes a behaviour, and has it ask for all its cowns at once.
     fn spawn(
         &self,
-        name: &'static str,
-        body: Body,
+        thread: &mut Thread<'_>,
+        parent: Row,
+        code: usize,
         arguments: &[i64],
         cowns: &[usize],
-        parent: u32,
-        offset: u64,
     ) {
-        let (arguments, cowns) = (arguments.to_vec(), cowns.to_vec());
-        let missing = AtomicUsize::new(cowns.len());
-        let behaviour = Arc::new(Behaviour {
-            name,
-            body,
-            arguments,
-            cowns,
-            parent,
-            offset,
-            row: AtomicU32::new(0),
-            missing,
-        });
         self.work.lock().unwrap().alive += 1;
-        // The row is numbered while all these locks are held, so requests for a cown stand in the order of the rows. Whoever takes several
-        // locks takes them in the order of the cowns, so nobody waits in a circle.
-        let mut queues: Vec<_> = behaviour
-            .rising()
-            .iter()
-            .map(|&cown| self.cowns[cown].requests.lock().unwrap())
-            .collect();
-        self.log(Event::Spawn(behaviour.clone()));
-        let mut is_ready = queues.is_empty();
-        for requests in &mut queues {
-            requests.push_back(behaviour.clone());
-            if requests.len() == 1 {
-                is_ready |= behaviour.gets_one();
-            }
+        // Spawns take the locks of several queues in the order of the cowns, so no two wait for each other.
+        let places = rising(cowns);
+        let lock = |&place: &usize| self.cowns[cowns[place]].queue.lock().unwrap();
+        let mut queues: Vec<_> = places.iter().map(lock).collect();
+        let row = thread.spawn(parent, self.defs[code], cowns.len(), arguments);
+        let behaviour = Arc::new(Behaviour {
+            body: CODES[code].1,
+            arguments: arguments.to_vec(),
+            cowns: cowns.to_vec(),
+            row,
+            missing: AtomicUsize::new(cowns.len() + 1), // one more until all locks are free again
+        });
+        let mut held = 1;
+        for (queue, &place) in queues.iter_mut().zip(&places) {
+            thread.ask(row, place, &mut queue.asked);
+            queue.waiting.push_back(behaviour.clone());
+            held += usize::from(queue.waiting.len() == 1);
         }
         drop(queues);
-        if is_ready {
+        if behaviour.gets(held) {
             self.make_ready(behaviour);
         }
     }
 
-    fn log(&self, event: Event) {
-        let mut record = self.record.lock().unwrap();
-        if let Event::Spawn(behaviour) = &event {
-            behaviour.row.store(record.rows, Ordering::Relaxed);
-            record.rows += 1;
-        }
-        record.events.push(event);
-    }
-
     fn make_ready(&self, behaviour: Arc<Behaviour>) {
         self.work.lock().unwrap().ready.push_back(behaviour);
-        self.work_changed.notify_one();
+        self.work_changed.notify_all();
     }
 
     fn serve_all(&self) {
+        let mut thread = self.recorder.thread();
         while let Some(behaviour) = self.next() {
-            self.serve(&behaviour);
+            self.serve(&mut thread, &behaviour);
             let mut work = self.work.lock().unwrap();
             work.alive -= 1;
             if work.alive == 0 {
@@ -220,7 +204,7 @@ impl Runtime {
         }
     }
 
-    /// A behaviour that is ready, or none where none will be.
+    /// A behaviour that is ready, or none once all have ended.
     fn next(&self) -> Option<Arc<Behaviour>> {
         let work = self.work.lock().unwrap();
         let mut work = self
@@ -230,86 +214,30 @@ impl Runtime {
         work.ready.pop_front()
     }
 
-    fn serve(&self, behaviour: &Arc<Behaviour>) {
-        // It has all its cowns: whoever had one of them before has logged its end.
-        self.log(Event::Start(behaviour.clone()));
+    fn serve<'b>(&'b self, thread: &'b mut Thread<'a>, behaviour: &'b Behaviour) {
+        // It has all its cowns: the ends of all behaviours that had one of them before are recorded.
+        thread.start(behaviour.row);
         let mut running = Running {
             runtime: self,
+            thread,
             behaviour,
-            began: Instant::now(),
-            last_offset: 0,
-            written: Vec::new(),
         };
         (behaviour.body)(&mut running, &behaviour.arguments);
-        // The end comes before a cown is given back: the next start on that may be logged at once.
-        self.log_end(&mut running);
-        self.give_back(behaviour);
+        // The end comes before a cown is released: the next start on it may be recorded at once.
+        thread.end(behaviour.row, 0);
+        self.release(behaviour);
     }
 
-    fn log_end(&self, running: &mut Running) {
-        let ticks = running.microseconds().max(running.last_offset).max(1);
-        running.written.sort_unstable();
-        self.log(Event::End {
-            row: running.behaviour.row(),
-            ticks,
-            written: running.written.clone(),
-        });
-    }
-
-    /// Each cown goes to whoever asked for it next.
-    fn give_back(&self, behaviour: &Behaviour) {
-        for cown in behaviour.rising() {
-            let mut requests = self.cowns[cown].requests.lock().unwrap();
-            requests.pop_front();
-            if let Some(next) = requests.front().filter(|next| next.gets_one()) {
+    /// Each cown goes to the next behaviour that asked for it.
+    fn release(&self, behaviour: &Behaviour) {
+        for place in rising(&behaviour.cowns) {
+            let mut queue = self.cowns[behaviour.cowns[place]].queue.lock().unwrap();
+            queue.waiting.pop_front();
+            if let Some(next) = queue.waiting.front().filter(|next| next.gets(1)) {
                 self.make_ready(next.clone());
             }
         }
     }
-
-    /// The text of version 2. It is made once all is over, so that the lock is never held for long.
-    fn record_text(&self) -> String {
-        let mut text = format!("boc 2 {}\n", self.cowns.len());
-        for event in &self.record.lock().unwrap().events {
-            text += &match event {
-                Event::Spawn(it) => format!(
-                    "+ {} {} {}{}\n",
-                    it.row(),
-                    it.parent,
-                    it.offset,
-                    listed(&it.rising())
-                ),
-                Event::Start(it) => format!("> {}\n", it.row()),
-                Event::End {
-                    row,
-                    ticks,
-                    written,
-                } => format!("< {row} {ticks} 0{}\n", listed(written)),
-            };
-        }
-        text + ".\n"
-    }
-
-    /// What rows and cowns are called.
-    fn names_text(&self) -> String {
-        let mut text = String::new();
-        for (number, cown) in self.cowns.iter().enumerate() {
-            writeln!(text, "@ {number} {}", cown.name).unwrap();
-        }
-        for event in &self.record.lock().unwrap().events {
-            if let Event::Spawn(it) = event {
-                writeln!(text, "= {} {}{}", it.row(), it.name, listed(&it.arguments)).unwrap();
-            }
-        }
-        text
-    }
-}
-
-fn listed(numbers: &[impl ToString]) -> String {
-    numbers
-        .iter()
-        .map(|number| format!(" {}", number.to_string()))
-        .collect()
 }
 
 const ACCOUNTS: usize = 12;
@@ -318,7 +246,7 @@ const TOTAL: usize = ACCOUNTS + 1;
 const DAYS: i64 = 3;
 
 fn main_body(running: &mut Running, _: &[i64]) {
-    running.when("day", day, &[1], &[]);
+    running.when(DAY, &[1], &[]);
 }
 
 /// A day has as many transfers as there are accounts, and an audit of each half of them at its end.
@@ -326,17 +254,17 @@ fn day(running: &mut Running, arguments: &[i64]) {
     let number = arguments[0];
     for from in 0..ACCOUNTS {
         let to = (from + 1 + 5 * number as usize % (ACCOUNTS - 1)) % ACCOUNTS;
-        running.when("transfer", transfer, &[10 + from as i64], &[from, to, LOG]);
+        running.when(TRANSFER, &[10 + from as i64], &[from, to, LOG]);
     }
     for half in [[0, 1, 2, 3, 4, 5, TOTAL], [6, 7, 8, 9, 10, 11, TOTAL]] {
-        running.when("audit", audit, &[number], &half);
+        running.when(AUDIT, &[number], &half);
     }
     if number < DAYS {
-        running.when("day", day, &[number + 1], &[]);
+        running.when(DAY, &[number + 1], &[]);
     }
 }
 
-/// Moves an amount where there is enough, and writes a line into the log.
+/// Moves an amount if there is enough, and writes a line into the log.
 fn transfer(running: &mut Running, arguments: &[i64]) {
     let amount = arguments[0];
     std::thread::sleep(Duration::from_micros(100));
@@ -353,32 +281,56 @@ fn audit(running: &mut Running, _: &[i64]) {
     running.write(6, running.read(6) + sum);
 }
 
-/// The words of the command line: how many threads, and where the names go.
-fn words() -> Result<(usize, Option<String>), String> {
-    let (mut threads, mut names) = (4, None);
+struct Words {
+    threads: usize,
+    mode: Mode,
+    names: Option<String>,
+}
+
+fn words() -> Result<Words, &'static str> {
+    let mut asked = Words {
+        threads: 4,
+        mode: Mode::Profile,
+        names: None,
+    };
     let mut words = std::env::args().skip(1);
     while let Some(word) = words.next() {
-        if word == "--names" {
-            names = Some(words.next().ok_or("--names takes a file")?);
-        } else {
-            threads = word
-                .parse()
-                .ok()
-                .filter(|number| (1..=64).contains(number))
-                .ok_or("usage: bank [THREADS] [--names FILE]")?;
+        match word.as_str() {
+            "--audit" => asked.mode = Mode::Audit,
+            "--names" => asked.names = Some(words.next().ok_or("--names takes a file")?),
+            _ => {
+                asked.threads = word
+                    .parse()
+                    .ok()
+                    .filter(|number| (1..=64).contains(number))
+                    .ok_or("usage: bank [THREADS] [--audit] [--names FILE]")?;
+            }
         }
     }
-    Ok((threads, names))
+    Ok(asked)
+}
+
+fn print_record(recorder: &Recorder, names: Option<&str>) {
+    let mut file = names.map(|name| std::fs::File::create(name).expect("the file of names"));
+    let names = file.as_mut().map(|file| file as &mut dyn std::io::Write);
+    let mut record = std::io::BufWriter::new(std::io::stdout().lock());
+    match recorder.write(&mut record, names, How::default()) {
+        Ok(report) => eprint!("{report}"),
+        Err(fault) => eprintln!("{fault}"),
+    }
 }
 
 fn main() -> Result<(), Box<dyn std::error::Error>> {
-    let (threads, names) = words()?;
+    let asked = words()?;
+    let recorder = Recorder::new(Options {
+        mode: asked.mode,
+        knows_writes: true,
+        ..Options::default()
+    });
     let accounts = (0..ACCOUNTS).map(|number| (format!("acct[{number}]"), 100));
-    let runtime = Runtime::new(accounts.chain([("log".to_string(), 0), ("total".to_string(), 0)]));
-    runtime.run(main_body, threads);
-    if let Some(names) = names {
-        std::fs::write(names, runtime.names_text())?;
-    }
-    print!("{}", runtime.record_text());
+    let others = [("log".to_string(), 0), ("total".to_string(), 0)];
+    let runtime = Runtime::new(&recorder, accounts.chain(others));
+    runtime.run(asked.threads);
+    print_record(&recorder, asked.names.as_deref());
     Ok(())
 }

@@ -1,41 +1,43 @@
 #!/usr/bin/env python3
-"""Dining philosophers on a small runtime of behaviours by threads: philosophers.py [THREADS] [--names FILE].
+"""Dining philosophers on a small runtime of behaviours by threads: philosophers.py [THREADS] [--audit] [--names FILE].
 
-It writes the record of its run to standard output, and what its rows and cowns are called to FILE. It knows nothing of boc but the text of
-both, which docs/RECORDS.md has; docs/RECORDING.md says what a runtime has to log, and where. A tick is a microsecond.
+It writes the record of its run to standard output, and what its rows and cowns are called to FILE. recorders/boc_record.py records;
+docs/RECORDING.md says where its calls belong. A tick is a microsecond. If the run hangs, the record so far is written.
 """
 import argparse
 import collections
 import contextlib
+import os
 import queue
+import signal
 import sys
 import threading
 import time
 
-SPAWN, START, END = "+", ">", "<"
+sys.path.insert(0, os.path.join(os.path.dirname(os.path.abspath(__file__)), "..", "..", "recorders"))
+import boc_record
 
-
-def microseconds():
-    return time.perf_counter_ns() // 1000
+# A run that takes longer hangs.
+PATIENCE = 10
 
 
 class Cown:
     """A value, and the behaviours that asked for it: the first of them holds it, or will hold it once it has its other cowns too."""
 
-    def __init__(self, number, name, value):
-        self.number = number
-        self.name = name
+    def __init__(self, asked, value):
+        self.asked = asked
         self.value = value
         self.lock = threading.Lock()    # It guards the requests; the value is guarded by them.
         self.requests = collections.deque()
 
 
 class Held:
-    """A cown as the body of its holder sees it, with a note whether it was written."""
+    """A cown as the body of its holder sees it."""
 
-    def __init__(self, cown):
+    def __init__(self, runtime, row, cown):
+        self.runtime = runtime
+        self.row = row
         self.cown = cown
-        self.is_written = False
 
     @property
     def value(self):
@@ -44,111 +46,61 @@ class Held:
     @value.setter
     def value(self, value):
         self.cown.value = value
-        self.is_written = True
+        self.runtime.recorder.wrote(self.row, self.cown.asked)
 
 
 class Behaviour:
     """A body with its arguments and its cowns, from its spawn to its end."""
 
-    def __init__(self, body, arguments=(), cowns=(), parent=None):
+    def __init__(self, body, arguments, cowns):
         self.body = body
         self.arguments = arguments
-        self.held = [Held(cown) for cown in cowns]
-        self.cowns = sorted(cowns, key=lambda cown: cown.number)
-        self.parent = parent or self    # Main has none, and its line has 0 there, which is main's own row.
-        self.offset = 0
-        self.last_offset = 0
+        self.cowns = cowns
+        self.row = None
         self.missing = len(cowns)
         self.lock = threading.Lock()    # It guards what is missing, for two cowns may come at once.
 
-    def next_offset(self):
-        """The tick at which the next child is spawned. Offsets rise, though two spawns may fall into one microsecond."""
-        self.last_offset = max(self.last_offset + 1, microseconds() - self.began)
-        return self.last_offset
-
-    def run(self):
-        self.began = microseconds()
-        self.body(*self.arguments, *self.held)
-        self.ticks = max(1, self.last_offset, microseconds() - self.began)
-
     def gets_one(self):
-        """Takes one more cown, and tells whether it was the last one missing."""
+        """Takes one more cown, and returns whether it was the last one missing."""
         with self.lock:
             self.missing -= 1
             return self.missing == 0
 
 
-class Record:
-    """What took place, in the order that its lock makes."""
-
-    def __init__(self):
-        self.lock = threading.Lock()
-        self.events = []
-        self.rows = []
-        self.alive = 0
-
-    def log(self, sign, behaviour):
-        with self.lock:
-            if sign == SPAWN:
-                behaviour.row = len(self.rows)
-                self.rows.append(behaviour)
-            self.alive += {SPAWN: 1, START: 0, END: -1}[sign]
-            self.events.append((sign, behaviour))
-
-    def text(self, cowns):
-        """The text of version 2. It is made once all is over, so that the lock is never held for long."""
-        lines = [f"boc 2 {len(cowns)}"]
-        for sign, behaviour in self.events:
-            numbers = []
-            if sign == SPAWN:
-                numbers = [behaviour.parent.row, behaviour.offset, *(cown.number for cown in behaviour.cowns)]
-            elif sign == END:
-                numbers = [behaviour.ticks, 0, *sorted(held.cown.number for held in behaviour.held if held.is_written)]
-            lines.append(" ".join(map(str, [sign, behaviour.row, *numbers])))
-        return "\n".join(lines + [".", ""])
-
-    def names(self, cowns):
-        lines = [f"@ {cown.number} {cown.name}" for cown in cowns]
-        lines += [" ".join(map(str, ["=", it.row, it.body.__name__, *it.arguments])) for it in self.rows]
-        return "\n".join(lines + [""])
-
-
 class Runtime:
-    def __init__(self, threads):
+    def __init__(self, threads, recorder):
         self.threads = threads
-        self.cowns = []
-        self.record = Record()
+        self.recorder = recorder
         self.ready = queue.SimpleQueue()    # Behaviours that have all their cowns; None stops a thread.
         self.here = threading.local()
+        self.lock = threading.Lock()        # It guards how many behaviours have not ended.
+        self.alive = 0
 
     def cown(self, name, value):
-        self.cowns.append(Cown(len(self.cowns), name, value))
-        return self.cowns[-1]
+        return Cown(self.recorder.cown(name), value)
 
     def when(self, body, *cowns, arguments=()):
-        """Spawns a behaviour of the one that runs here, which goes on at once."""
-        behaviour = Behaviour(body, arguments, cowns, self.here.behaviour)
-        behaviour.offset = self.here.behaviour.next_offset()
-        self.ask(behaviour)
-
-    def ask(self, behaviour):
-        """Gives a behaviour its row, and has it ask for all its cowns at once."""
-        is_ready = not behaviour.cowns
+        """Spawns a behaviour of the one that runs here, which continues at once. It asks for all its cowns at once."""
+        behaviour = Behaviour(body, arguments, cowns)
+        with self.lock:
+            self.alive += 1
+        is_ready = not cowns
+        rising = sorted(cowns, key=lambda cown: cown.asked.number)
         with contextlib.ExitStack() as locks:
-            # The row is numbered while all these locks are held, so requests for a cown stand in the order of the rows. Whoever takes several
-            # locks takes them in the order of the cowns, so nobody waits in a circle.
-            for cown in behaviour.cowns:
+            # Several locks are taken in the order of the cowns, so no two spawns wait for each other.
+            for cown in rising:
                 locks.enter_context(cown.lock)
-            self.record.log(SPAWN, behaviour)
-            for cown in behaviour.cowns:
+            parent = getattr(self.here, "behaviour", None)
+            behaviour.row = self.recorder.spawn(parent and parent.row, body.__name__, [cown.asked for cown in cowns], arguments)
+            for cown in rising:
                 cown.requests.append(behaviour)
                 if cown.requests[0] is behaviour:
                     is_ready |= behaviour.gets_one()
         if is_ready:
             self.ready.put(behaviour)
 
-    def give_back(self, behaviour):
-        """Each cown goes to whoever asked for it next."""
+    def release(self, behaviour):
+        """Each cown goes to the next behaviour that asked for it."""
         for cown in behaviour.cowns:
             with cown.lock:
                 cown.requests.popleft()
@@ -156,25 +108,28 @@ class Runtime:
                     self.ready.put(cown.requests[0])
 
     def serve(self, behaviour):
-        # It has all its cowns: whoever had one of them before has logged its end.
-        self.record.log(START, behaviour)
         self.here.behaviour = behaviour
-        behaviour.run()
-        # The end comes before a cown is given back: the next start on that may be logged at once.
-        self.record.log(END, behaviour)
-        self.give_back(behaviour)
+        # It has all its cowns: the ends of all behaviours that had one of them before are recorded.
+        self.recorder.start(behaviour.row)
+        behaviour.body(*behaviour.arguments, *(Held(self, behaviour.row, cown) for cown in behaviour.cowns))
+        # The end comes before a cown is released: the next start on it may be recorded at once.
+        self.recorder.end(behaviour.row)
+        self.release(behaviour)
 
     def work(self):
         for behaviour in iter(self.ready.get, None):
             self.serve(behaviour)
-            if self.record.alive == 0:    # Children are logged before their parent's end, so nobody will be spawned.
+            with self.lock:
+                self.alive -= 1
+                has_finished = self.alive == 0
+            if has_finished:
                 for _ in range(self.threads):
                     self.ready.put(None)
 
     def run(self, main):
         """Runs a body over no cowns, and all that it spawns."""
-        self.ask(Behaviour(main))
-        workers = [threading.Thread(target=self.work) for _ in range(self.threads)]
+        self.when(main)
+        workers = [threading.Thread(target=self.work, daemon=True) for _ in range(self.threads)]
         for worker in workers:
             worker.start()
         for worker in workers:
@@ -208,17 +163,34 @@ def dine(runtime, seats=5, meals=3):
     runtime.run(main)
 
 
+def write(recorder, names):
+    try:
+        with open(names, "w", encoding="ascii") if names else contextlib.nullcontext() as file:
+            report = recorder.write(sys.stdout, file)
+    except boc_record.Failed as failed:
+        sys.exit(f"boc_record: {failed}")
+    sys.stdout.flush()
+    for line in report.lines:
+        print(line, file=sys.stderr)
+
+
 def main():
     parser = argparse.ArgumentParser(description="Runs dining philosophers by threads, and writes the record of the run.")
     parser.add_argument("threads", nargs="?", type=int, default=4, choices=range(1, 65), metavar="THREADS", help="how many, 4 if not given")
+    parser.add_argument("--audit", action="store_true", help="keeps the order in which things happened, for boc check")
     parser.add_argument("--names", metavar="FILE", help="writes what rows and cowns are called to FILE")
     words = parser.parse_args()
-    runtime = Runtime(words.threads)
-    dine(runtime)
-    if words.names:
-        with open(words.names, "w", encoding="ascii") as file:
-            file.write(runtime.record.names(runtime.cowns))
-    sys.stdout.write(runtime.record.text(runtime.cowns))
+    recorder = boc_record.Recorder(mode=boc_record.AUDIT if words.audit else boc_record.PROFILE, knows_writes=True)
+
+    def give_up(*_):
+        write(recorder, words.names)
+        os._exit(1)
+
+    signal.signal(signal.SIGALRM, give_up)
+    signal.alarm(PATIENCE)
+    dine(Runtime(words.threads, recorder))
+    signal.alarm(0)
+    write(recorder, words.names)
 
 
 if __name__ == "__main__":

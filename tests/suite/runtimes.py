@@ -1,6 +1,6 @@
 """The small runtimes of examples/runtimes: each record that they write is accepted, and what is wrong with planted copies of them is told.
 
-A copy is planted by replacing one place of its source. What is wrong with its record, and at which line, is worked out by record_reader.
+A copy is planted by replacing places of its source. What is wrong with its record, and at which line, is worked out by record_reader.
 `check` says of each record in docs/RECORDING.md what the line below it has.
 """
 import dataclasses
@@ -16,51 +16,133 @@ from .running import done, fault_of, refused
 
 TOP = os.path.dirname(os.path.dirname(os.path.dirname(os.path.abspath(__file__))))
 FOLDER = os.path.join(TOP, "examples", "runtimes")
+RECORDERS = os.path.join(TOP, "recorders")
 GUIDE = os.path.join(TOP, "docs", "RECORDING.md")
 
-RUNS = 50
+# So many runs in each mode, and as many of a planted copy until what is wrong with it shows.
+RUNS = 25
 THREADS = 4
 
 # A run takes a twentieth of a second, and a build a second or two.
 SECONDS = 60
 
-NUMBERS = {"NumberNotNext": 3, "ParentNotRunning": 4, "StartNotAllowed": 7}
+NUMBERS = {"NumberNotNext": 3, "ParentNotRunning": 4, "StartNotAllowed": 7, "EndNotAllowed": 8, "Unended": 10}
 
-# What is planted into a source: its text there, what takes its place, and what a record of it is told in time.
+# How each mistake is found in time.
+MISTAKES = {
+    "two behaviours at once on a cown": "StartNotAllowed",
+    "a start before its spawn": "StartNotAllowed",
+    "a lost wake-up": "Unended",
+    "an end twice": "EndNotAllowed",
+    "a queue out of order": "StartNotAllowed",
+    "a child without its parent": "ParentNotRunning",
+    "an end without a start": "EndNotAllowed",
+}
+
+# What is planted into a source, by mistake: texts there, and what takes the place of each.
 PLANTS = {
-    "philosophers.py": [
-        ("a start without waiting for a cown", "self.missing = len(cowns)", "self.missing = min(len(cowns), 1)", "StartNotAllowed"),
-        ("an end before the last spawn", """\
-        behaviour.run()
-        # The end comes before a cown is given back: the next start on that may be logged at once.
-        self.record.log(END, behaviour)
-""", """\
-        self.record.log(END, behaviour)
-        behaviour.run()
-""", "ParentNotRunning"),
-        ("a row numbered at its start", "if sign == SPAWN:\n                behaviour.row = ", "if sign == START:\n                behaviour.row = ",
-         "NumberNotNext"),
-    ],
-    "bank.rs": [
-        ("a start without waiting for a cown", "AtomicUsize::new(cowns.len())", "AtomicUsize::new(cowns.len().min(1))", "StartNotAllowed"),
-        ("an end before the last spawn", """\
-        (behaviour.body)(&mut running, &behaviour.arguments);
-        // The end comes before a cown is given back: the next start on that may be logged at once.
-        self.log_end(&mut running);
-""", """\
-        self.log_end(&mut running);
-        (behaviour.body)(&mut running, &behaviour.arguments);
-""", "ParentNotRunning"),
-        ("a row numbered at its start", "if let Event::Spawn(behaviour) = &event {", "if let Event::Start(behaviour) = &event {", "NumberNotNext"),
-    ],
+    "philosophers.py": {
+        "two behaviours at once on a cown": [("self.missing = len(cowns)", "self.missing = min(len(cowns), 1)")],
+        "a start before its spawn": [
+            ("            behaviour.row = self.recorder.spawn(", "            spawn = lambda: self.recorder.spawn("),
+            ("            self.ready.put(behaviour)\n\n", "            self.ready.put(behaviour)\n        time.sleep(0.002)\n        behaviour.row = spawn()\n\n"),
+        ],
+        "a lost wake-up": [
+            ("cown.requests[0].gets_one():\n                    self.ready.put", "cown.requests[0].gets_one() and next(WAKES) != 3:\n                    self.ready.put"),
+            ("PATIENCE = 10\n", "PATIENCE = 1\nimport itertools\nWAKES = itertools.count()\n"),
+        ],
+        "an end twice": [("        self.recorder.end(behaviour.row)\n", "        self.recorder.end(behaviour.row)\n        self.recorder.end(behaviour.row)\n")],
+        "a queue out of order": [
+            ("cown.requests.append(behaviour)", "cown.requests.insert(min(len(cown.requests), 1) if len(cowns) == 1 else len(cown.requests), behaviour)"),
+            ("        eaten.value += 1\n", "        eaten.value += 1\n        time.sleep(0.01)\n"),
+        ],
+        "a child without its parent": [
+            ("        self.recorder.end(behaviour.row)\n", ""),
+            ("        self.recorder.start(behaviour.row)\n", "        self.recorder.start(behaviour.row)\n        self.recorder.end(behaviour.row)\n"),
+        ],
+        "an end without a start": [("        self.recorder.start(behaviour.row)\n",
+                                    "        if len(behaviour.cowns) != 1:\n            self.recorder.start(behaviour.row)\n")],
+    },
+    "bank.rs": {
+        "two behaviours at once on a cown": [("        if behaviour.gets(held) {\n            self.make_ready(behaviour);\n        }\n",
+                                              "        behaviour.missing.fetch_add(1000 - held, Ordering::Relaxed);\n        self.make_ready(behaviour);\n")],
+        "a start before its spawn": [
+            ("        let row = thread.spawn(parent, self.defs[code], cowns.len(), arguments);\n", "        let row = Row::NONE;\n"),
+            ("            self.make_ready(behaviour);\n        }\n    }\n\n    fn make_ready",
+             "            self.make_ready(behaviour);\n        }\n        thread.spawn(parent, self.defs[code], 0, arguments);\n    }\n\n    fn make_ready"),
+        ],
+        "a lost wake-up": [
+            ("filter(|next| next.gets(1))", "filter(|next| next.gets(1) && WAKES.fetch_add(1, Ordering::Relaxed) != 3)"),
+            ("Duration::from_secs(10);\n", "Duration::from_secs(1);\nstatic WAKES: AtomicUsize = AtomicUsize::new(0);\n"),
+        ],
+        "an end twice": [("        thread.end(behaviour.row, 0);\n", "        thread.end(behaviour.row, 0);\n        thread.end(behaviour.row, 0);\n"),
+                         ("            thread,\n            behaviour,\n        };\n        (behaviour.body)",
+                          "            thread: &mut *thread,\n            behaviour,\n        };\n        (behaviour.body)")],
+        "a queue out of order": [
+            ("            queue.waiting.push_back(behaviour.clone());\n",
+             "            let last = queue.waiting.len();\n            let jumps = cowns[place] == LOG && arguments == [13];\n"
+             "            queue.waiting.insert(if jumps { last.min(1) } else { last }, behaviour.clone());\n"),
+            ("Duration::from_secs(10);\n", "Duration::from_secs(1);\n"),
+        ],
+        "a child without its parent": [
+            ("        thread.end(behaviour.row, 0);\n", ""),
+            ("        thread.start(behaviour.row);\n", "        thread.start(behaviour.row);\n        thread.end(behaviour.row, 0);\n"),
+        ],
+        "an end without a start": [("        thread.start(behaviour.row);\n",
+                                    "        if behaviour.cowns.is_empty() {\n            thread.start(behaviour.row);\n        }\n")],
+    },
+    "heat.c": {
+        "two behaviours at once on a cown": [
+            ("    if (gets(one, held))\n        make_ready(one);\n", "    (void)held;\n    atomic_store(&one->missing, 1000);\n    make_ready(one);\n"),
+            ("    free(one);\n", ""),
+        ],
+        "a start before its spawn": [
+            ("    one->row = boc_spawn_with(&me->record, me->row, def, count, &round, count > 0 ? 1 : 0);\n", ""),
+            ("        boc_ask(&me->record, one->row, i, &cowns[i]->asked);\n", ""),
+            ("    if (gets(one, held))\n        make_ready(one);\n", """\
+    if (gets(one, held))
+        make_ready(one);
+    nanosleep(&(struct timespec){0, 2000000}, NULL);
+    one->row = boc_spawn_with(&me->record, me->row, def, count, &round, count > 0 ? 1 : 0);
+    for (unsigned i = 0; i < count; i++)
+        boc_ask(&me->record, one->row, i, &cowns[i]->asked);
+"""),
+            ("    free(one);\n", ""),
+        ],
+        "a lost wake-up": [
+            ("next != NULL && gets(next->of, 1)", "next != NULL && gets(next->of, 1) && atomic_fetch_add(&wakes, 1) != 3"),
+            ("static void release(", "static atomic_int wakes;\n\nstatic void release("),
+            ("alarm((unsigned)rounds * 2);", "alarm(1);"),
+        ],
+        "an end twice": [("    boc_end(&me->record, one->row, 0);\n", "    boc_end(&me->record, one->row, 0);\n    boc_end(&me->record, one->row, 0);\n")],
+        "a queue out of order": [
+            ("    else\n        to->last->next = last;\n", """\
+    else if (last->of->count == 1 && to->first->next != NULL) {
+        last->next = to->first->next;
+        to->first->next = last;
+        return false;
+    } else
+        to->last->next = last;
+"""),
+        ],
+        "a child without its parent": [
+            ("    boc_end(&me->record, one->row, 0);\n", ""),
+            ("    boc_start(&me->record, one->row);\n", "    boc_start(&me->record, one->row);\n    boc_end(&me->record, one->row, 0);\n"),
+        ],
+        "an end without a start": [("    boc_start(&me->record, one->row);\n", "    if (one->count == 0)\n        boc_start(&me->record, one->row);\n")],
+    },
 }
 
 # Main's end stands before all that it spawns, so the first spawn is the fifth line.
-KNOWN_LINES = {"an end before the last spawn": 5}
+KNOWN_LINES = {"a child without its parent": 5}
 
 # What the rows and the cowns of each are called.
-ROWS = {"philosophers.py": {"main", "think", "eat", "count"}, "bank.rs": {"main", "day", "transfer", "audit"}}
-COWNS = {"philosophers.py": {"fork", "eaten"}, "bank.rs": {"acct", "log", "total"}}
+ROWS = {
+    "philosophers.py": {"main", "think", "eat", "count"},
+    "bank.rs": {"main", "day", "transfer", "audit"},
+    "heat.c": {"main", "heat", "smooth", "report"},
+}
+COWNS = {"philosophers.py": {"fork", "eaten"}, "bank.rs": {"acct", "log", "total"}, "heat.c": {"cell"}}
 
 # What `check` cannot see, as docs/RECORDING.md says: a record of a run, and others of the same run with one thing changed that are accepted too.
 SEEN = "boc 2 2\n+ 0 0 0\n> 0\n+ 1 0 4 0\n+ 2 0 9 0 1\n< 0 12 0\n> 1\n+ 3 1 5 1\n< 1 20 0 0\n> 2\n< 2 20 0 0 1\n> 3\n< 3 8 0 1\n.\n"
@@ -85,13 +167,15 @@ def cases(program):
     for name, text in unseen():
         yield f"not seen: {name}", fault_of(done(b"ok %d\n" % text.count("+")), program.run(["check"], text.encode()))
     with tempfile.TemporaryDirectory() as folder:
-        for name in PLANTS:
-            if name.endswith(".rs") and not builds_rust(folder):
-                print(f"note: examples/runtimes/{name} was not tried, since there is no rustc that builds", flush=True)
+        for name, plants in PLANTS.items():
+            lacks = lacking(name, folder)
+            if lacks:
+                print(f"note: examples/runtimes/{name} was not tried, since there is no {lacks} that builds", flush=True)
                 continue
             yield from of_runtime(program, name, folder)
-            for plant in PLANTS[name]:
-                yield f"{name}: {plant[0]}", fault_of_plant(program, name, plant, folder)
+            yield f"{name}: which mistakes are planted", None if plants.keys() == MISTAKES.keys() else str(sorted(plants))
+            for mistake, changes in plants.items():
+                yield f"{name}: {mistake}", fault_of_plant(program, name, mistake, changes, folder)
 
 
 def unseen():
@@ -150,49 +234,54 @@ def text_of(path):
         return file.read()
 
 
-def builds_rust(folder):
-    """Whether a program of Rust can be built and run here."""
-    if not shutil.which("rustc"):
-        return False
+def c_compiler():
+    """The first compiler of C here, or none."""
+    return next(filter(None, map(shutil.which, ("cc", "gcc", "clang"))), None)
+
+
+def lacking(name, folder):
+    """What is lacking to build a program of this name, or None."""
+    small = {".rs": ("rustc", "fn main() {}"), ".c": ("C compiler", "#include <pthread.h>\nint main(void) { return 0; }")}
+    compiler, source = small.get(os.path.splitext(name)[1], (None, ""))
+    if compiler is None:
+        return None
     try:
-        return not output_of([built(folder, "empty.rs", "fn main() {}")])
+        output_of(command_of("small" + os.path.splitext(name)[1], source, folder))
     except Failed:
-        return False
+        return compiler
+    return None
 
 
 class Failed(Exception):
     """What went wrong when a runtime was built or run."""
 
 
-def output_of(command):
+def output_of(command, status=0, notes=False):
+    """What a command prints, which ends with 0 or this status. It writes to standard error only if it may have notes, or does not end with 0."""
     try:
         run = subprocess.run(command, capture_output=True, timeout=SECONDS, check=False)
     except subprocess.TimeoutExpired:
         raise Failed("it did not end in time") from None
     except OSError as error:
         raise Failed(str(error)) from None
-    if run.returncode or run.stderr:
+    if run.returncode not in (0, status) or run.stderr and not notes and run.returncode == 0:
         raise Failed(f"the status {run.returncode} and {run.stderr.decode(errors='replace')!r}")
     return run.stdout
 
 
-def built(folder, name, source):
-    """The program that rustc makes of this source."""
-    path = os.path.join(folder, name)
-    with open(path, "w", encoding="utf-8") as file:
-        file.write(source)
-    output_of(["rustc", "-O", "-o", path[:-len(".rs")], path])
-    return path[:-len(".rs")]
-
-
 def command_of(name, source, folder):
-    """What runs a runtime of this source."""
-    if name.endswith(".rs"):
-        return [built(folder, name, source)]
-    path = os.path.join(folder, name)
+    """What runs a runtime of this source, which is built if that has to be done."""
+    path, built = os.path.join(folder, name), os.path.join(folder, os.path.splitext(name)[0])
     with open(path, "w", encoding="utf-8") as file:
-        file.write(source)
-    return [sys.executable, path]
+        file.write(source.replace("../../recorders", RECORDERS).replace('os.path.join(os.path.dirname(os.path.abspath(__file__)), "..", "..", "recorders")',
+                                                                        repr(RECORDERS)))
+    if name.endswith(".rs"):
+        output_of(["rustc", "--edition", "2021", "-O", "-o", built, path])
+    elif name.endswith(".c"):
+        output_of([c_compiler() or "cc", "-std=gnu11", "-O2", "-pthread", "-Wall", "-Wextra", "-I", RECORDERS, "-o", built, path])
+    else:
+        return [sys.executable, path]
+    return [built]
 
 
 def of_runtime(program, name, folder):
@@ -204,9 +293,9 @@ def of_runtime(program, name, folder):
         return
     names = os.path.join(folder, "names")
     together, told = 0, set()
-    for number in range(RUNS):
+    for number in range(2 * RUNS):
         try:
-            record = output_of([*command, str(THREADS), "--names", names])
+            record = output_of([*command, str(THREADS), "--names", names, *["--audit"] * (number % 2)])
             together += has_two_at_once(record)
             yield f"{name}: the record of run {number}", fault_of(done(b"ok %d\n" % read_record(record)), program.run(["check"], record))
             yield f"{name}: the names of run {number}", fault_of_names(program, name, record, text_of(names), told)
@@ -217,7 +306,7 @@ def of_runtime(program, name, folder):
     yield f"{name}: two at once", None if together else "no two behaviours were ever under way at once"
     for kind, wanted in [("rows", ROWS[name]), ("cowns", COWNS[name])]:
         yield f"{name}: {kind} that why told of by name", None if wanted & told else f"none of {sorted(wanted)}"
-    for threads in ([], ["1"], ["16"]):
+    for threads in ([], ["1"], ["1", "--audit"], ["8"], ["8", "--audit"], ["16"]):
         try:
             record = output_of([*command, *threads])
             yield f"{name}: threads {threads}", fault_of(done(b"ok %d\n" % read_record(record)), program.run(["check"], record))
@@ -276,21 +365,24 @@ def chain_of(text):
     return chain
 
 
-def fault_of_plant(program, name, plant, folder):
+def fault_of_plant(program, name, mistake, changes, folder):
     """What is wrong with a planted copy is told in one of its runs, as an independent look at the record has it."""
-    said, old, new, kind = plant
-    source = text_of(os.path.join(FOLDER, name))
-    if source.count(old) != 1:
-        return f"what is to be replaced stands {source.count(old)} times in the source"
+    source, kind = text_of(os.path.join(FOLDER, name)), MISTAKES[mistake]
+    for old, new in changes:
+        if source.count(old) != 1:
+            return f"{old!r} stands {source.count(old)} times in the source"
+        source = source.replace(old, new)
     try:
-        command = command_of(name, source.replace(old, new), folder)
+        command = command_of(name, source, folder)
         for _ in range(RUNS):
-            record = output_of([*command, str(THREADS)])
+            record = record_of(command, name, folder)
             try:
                 read_record(record)
             except Refused as refusal:
                 line, found = refusal.args
-                if found != kind or line != KNOWN_LINES.get(said, line):
+                if found == "Unended" != kind:
+                    continue    # it hung before the mistake showed
+                if found != kind or line != KNOWN_LINES.get(mistake, line):
                     return f"line {line} is {found} in place of {kind}"
                 return fault_of_refusal(f"boc: line {line}: {NUMBERS[kind]} {kind}", program.run(["check"], record))
             fault = fault_of(done(b"ok %d\n" % read_record(record)), program.run(["check"], record))
@@ -299,3 +391,12 @@ def fault_of_plant(program, name, plant, folder):
     except Failed as failed:
         return str(failed)
     return f"nothing was wrong with {RUNS} records"
+
+
+def record_of(command, name, folder):
+    """The record of a run in audit mode, also of one that hangs: heat.c leaves buffers then, and the others a record."""
+    if not name.endswith(".c"):
+        return output_of([*command, str(THREADS), "--audit"], 1, notes=True)
+    buffers = os.path.join(folder, "buffers")
+    record = output_of([*command, str(THREADS), "--audit", "--buffers", buffers], 1, notes=True)
+    return record or output_of([sys.executable, os.path.join(RECORDERS, "boc_record.py"), buffers], notes=True)

@@ -1,0 +1,287 @@
+/*
+ * Heat in a rod on a small runtime of behaviours by threads:
+ *
+ *     cc -O2 -pthread -I recorders examples/runtimes/heat.c -o heat
+ *     ./heat [THREADS] [--rounds N] [--audit] [--names FILE] [--buffers FILE]
+ *
+ * It writes the record of its run to standard output, and what its rows and cowns are called to FILE. recorders/boc_record.h records; the calls are
+ * marked below by their names, boc_*. A tick is a microsecond. If the run takes more than two seconds a round, it is stopped: then the buffers
+ * of the recorder go to the file of --buffers, of which recorders/boc_record.py makes a record.
+ */
+#include "boc_record.h"
+
+#include <fcntl.h>
+#include <pthread.h>
+#include <signal.h>
+#include <stdatomic.h>
+
+enum { CELLS = 12, MOST_COWNS = 3, MOST_THREADS = 64 };
+
+typedef struct behaviour behaviour;
+typedef struct worker worker;
+typedef void (*body_of)(worker *me, behaviour *self);
+
+/* A temperature, and the behaviours that asked for it: the first of them holds it, or will hold it once it has its other cowns too. */
+typedef struct cown {
+    double value;
+    pthread_mutex_t lock;
+    struct request *first, *last;
+    boc_cown asked;
+} cown;
+
+typedef struct request {
+    behaviour *of;
+    struct request *next;
+} request;
+
+/* A body with its argument and its cowns in rising order, from its spawn to its end. */
+struct behaviour {
+    body_of body;
+    int64_t round;
+    unsigned count;
+    cown *cowns[MOST_COWNS];
+    request requests[MOST_COWNS];
+    atomic_uint missing;
+    boc_row row;
+    behaviour *next;
+};
+
+/* A thread, and the behaviour that it runs. */
+struct worker {
+    boc_thread record;
+    boc_row row;
+};
+
+static boc_recorder *recorder;
+static unsigned main_def, heat_def, smooth_def, report_def;
+static int64_t rounds = 4;
+static int buffers = -1;
+
+static cown rod[CELLS];
+static double warmth;
+
+static pthread_mutex_t work_lock = PTHREAD_MUTEX_INITIALIZER;
+static pthread_cond_t work_changed = PTHREAD_COND_INITIALIZER;
+static behaviour *ready_first, *ready_last;
+static unsigned alive;
+
+static void make_ready(behaviour *one)
+{
+    pthread_mutex_lock(&work_lock);
+    one->next = NULL;
+    if (ready_last != NULL)
+        ready_last->next = one;
+    else
+        ready_first = one;
+    ready_last = one;
+    pthread_cond_signal(&work_changed);
+    pthread_mutex_unlock(&work_lock);
+}
+
+/* A behaviour that is ready, or NULL once all have ended. */
+static behaviour *next_ready(void)
+{
+    pthread_mutex_lock(&work_lock);
+    while (ready_first == NULL && alive > 0)
+        pthread_cond_wait(&work_changed, &work_lock);
+    behaviour *one = ready_first;
+    if (one != NULL)
+        ready_first = one->next;
+    if (ready_first == NULL)
+        ready_last = NULL;
+    pthread_mutex_unlock(&work_lock);
+    return one;
+}
+
+/* Takes this many more cowns, and returns whether none is missing any more. */
+static bool gets(behaviour *one, unsigned count)
+{
+    return atomic_fetch_sub(&one->missing, count) == count;
+}
+
+/* Appends a request to its queue, and returns whether it is the first there. */
+static bool append(cown *to, request *last)
+{
+    last->next = NULL;
+    bool is_first = to->first == NULL;
+    if (is_first)
+        to->first = last;
+    else
+        to->last->next = last;
+    to->last = last;
+    return is_first;
+}
+
+/* Spawns a behaviour of the one that this thread runs, which continues. Cowns are locked in rising order, so no two spawns wait for each other. */
+static void when(worker *me, unsigned def, body_of body, int64_t round, cown *const cowns[], unsigned count)
+{
+    behaviour *one = calloc(1, sizeof *one);
+    if (one == NULL)
+        abort();
+    one->body = body;
+    one->round = round;
+    one->count = count;
+    atomic_init(&one->missing, count + 1); /* one more, so that it is not ready before all locks are free again */
+    pthread_mutex_lock(&work_lock);
+    alive++;
+    pthread_mutex_unlock(&work_lock);
+
+    unsigned held = 1;
+    for (unsigned i = 0; i < count; i++)
+        pthread_mutex_lock(&cowns[i]->lock);
+    one->row = boc_spawn_with(&me->record, me->row, def, count, &round, count > 0 ? 1 : 0);
+    for (unsigned i = 0; i < count; i++) {
+        one->cowns[i] = cowns[i];
+        one->requests[i].of = one;
+        boc_ask(&me->record, one->row, i, &cowns[i]->asked);
+        held += append(cowns[i], &one->requests[i]);
+    }
+    for (unsigned i = 0; i < count; i++)
+        pthread_mutex_unlock(&cowns[i]->lock);
+    if (gets(one, held))
+        make_ready(one);
+}
+
+/* Each cown goes to the next behaviour that asked for it. */
+static void release(behaviour *one)
+{
+    for (unsigned i = 0; i < one->count; i++) {
+        cown *released = one->cowns[i];
+        pthread_mutex_lock(&released->lock);
+        request *next = released->first = released->first->next;
+        pthread_mutex_unlock(&released->lock);
+        if (next != NULL && gets(next->of, 1))
+            make_ready(next->of);
+    }
+}
+
+static void serve(worker *me, behaviour *one)
+{
+    me->row = one->row;
+    boc_start(&me->record, one->row);
+    one->body(me, one);
+    boc_end(&me->record, one->row, 0);
+    release(one);
+    free(one);
+    pthread_mutex_lock(&work_lock);
+    if (--alive == 0)
+        pthread_cond_broadcast(&work_changed);
+    pthread_mutex_unlock(&work_lock);
+}
+
+static void *serve_all(void *unused)
+{
+    worker me = {boc_attach(recorder), {0}};
+    for (behaviour *one = next_ready(); one != NULL; one = next_ready())
+        serve(&me, one);
+    return unused;
+}
+
+static void work(unsigned microseconds)
+{
+    struct timespec time = {0, (long)microseconds * 1000};
+    nanosleep(&time, NULL);
+}
+
+/* Takes the mean of a cell and its neighbours. It only reads the neighbours. */
+static void smooth(worker *me, behaviour *self)
+{
+    cown *const *cell = self->cowns;
+    work(100);
+    cell[1]->value = (cell[0]->value + cell[1]->value + cell[2]->value) / 3;
+    boc_wrote(&me->record, self->row, 1);
+}
+
+static void report(worker *me, behaviour *self)
+{
+    (void)me;
+    warmth += self->cowns[0]->value;
+}
+
+/* One round over the rod; the next one is spawned at once, and its behaviours wait for those of this one cell by cell. */
+static void heat(worker *me, behaviour *self)
+{
+    for (unsigned i = 1; i + 1 < CELLS; i++)
+        when(me, smooth_def, smooth, self->round, (cown *[]){&rod[i - 1], &rod[i], &rod[i + 1]}, 3);
+    when(me, report_def, report, self->round, (cown *[]){&rod[CELLS / 2]}, 1);
+    if (self->round < rounds)
+        when(me, heat_def, heat, self->round + 1, NULL, 0);
+}
+
+static void begin(worker *me, behaviour *self)
+{
+    (void)self;
+    when(me, heat_def, heat, 1, NULL, 0);
+}
+
+/* A run that hangs: its buffers are written, and make a record of it. */
+static void give_up(int signal)
+{
+    (void)signal;
+    if (buffers >= 0)
+        boc_dump(recorder, buffers);
+    _exit(1);
+}
+
+static void record(boc_mode mode)
+{
+    const boc_options options = {.mode = mode, .knows_writes = true};
+    recorder = boc_new(&options);
+    main_def = boc_def(recorder, "main");
+    heat_def = boc_def(recorder, "heat");
+    smooth_def = boc_def(recorder, "smooth");
+    report_def = boc_def(recorder, "report");
+    for (uint32_t i = 0; i < CELLS; i++) {
+        char name[16];
+        snprintf(name, sizeof name, "cell[%" PRIu32 "]", i);
+        boc_name_cown(recorder, i, name);
+        rod[i].asked.number = i;
+        rod[i].value = i == 0 ? 100 : 0;
+        pthread_mutex_init(&rod[i].lock, NULL);
+    }
+}
+
+static void run(unsigned count)
+{
+    pthread_t threads[MOST_THREADS];
+    worker me = {boc_attach(recorder), {0}};
+    when(&me, main_def, begin, 0, NULL, 0);
+    for (unsigned i = 0; i < count; i++)
+        if (pthread_create(&threads[i], NULL, serve_all, NULL) != 0)
+            abort();
+    for (unsigned i = 0; i < count; i++)
+        pthread_join(threads[i], NULL);
+}
+
+int main(int argc, char **argv)
+{
+    int threads = 4;
+    boc_mode mode = BOC_PROFILE;
+    FILE *names = NULL;
+    for (int i = 1; i < argc; i++) {
+        bool has_value = i + 1 < argc;
+        if (strcmp(argv[i], "--audit") == 0)
+            mode = BOC_AUDIT;
+        else if (strcmp(argv[i], "--rounds") == 0 && has_value)
+            rounds = atoi(argv[++i]);
+        else if (strcmp(argv[i], "--names") == 0 && has_value)
+            names = fopen(argv[++i], "w");
+        else if (strcmp(argv[i], "--buffers") == 0 && has_value)
+            buffers = open(argv[++i], O_WRONLY | O_CREAT | O_TRUNC, 0666);
+        else
+            threads = atoi(argv[i]);
+    }
+    if (threads < 1 || threads > MOST_THREADS || rounds < 1) {
+        fputs("usage: heat [THREADS] [--rounds N] [--audit] [--names FILE] [--buffers FILE]\n", stderr);
+        return 2;
+    }
+    record(mode);
+    signal(SIGALRM, give_up);
+    alarm((unsigned)rounds * 2);
+    run((unsigned)threads);
+    alarm(0);
+    boc_report done = boc_write(recorder, stdout, names, 0);
+    boc_print_report(stderr, &done);
+    boc_free(recorder);
+    return done.fault == BOC_DONE ? 0 : 1;
+}

@@ -10,15 +10,11 @@ use boc_rules::Judge;
 use boc_said::said::Part::{Many, Number};
 use boc_said::said::{Said, Told};
 use boc_text::read_number;
+use std::alloc::{AllocError, Global};
 
 /// Reports which rule the event of a line breaks, by what.
 pub(crate) fn put_broken(said: &mut Said, text: &[u8], line: &[u8], fault: RecordFault) -> Told {
-    let mut numbers = Vec::new(said.alloc);
-    for field in line.split(is_space).skip(1) {
-        if let Some(number) = read_number(field) {
-            numbers.push(number)?;
-        }
-    }
+    let numbers = numbers_in(said.alloc, line)?;
     let run = run_before(said.alloc, text, fault.line)?;
     let faulty = match fault.kind {
         RecordFaultKind::NumberNotNext => 1,
@@ -27,14 +23,34 @@ pub(crate) fn put_broken(said: &mut Said, text: &[u8], line: &[u8], fault: Recor
         _ => 0,
     };
     said.set_column(column_of(line, faulty));
-    match (fault.kind, numbers.as_slice()) {
-        (RecordFaultKind::StartNotAllowed, [row]) => put_start(said, &run, *row),
-        (RecordFaultKind::EndNotAllowed, [row, ticks, _, written @ ..]) => {
-            put_end(said, &run, *row, *ticks, written)
+    put_event(said, &run, fault.kind, numbers.as_slice())
+}
+
+// The numbers of the fields after the first one.
+fn numbers_in(alloc: Global, line: &[u8]) -> Result<Vec<u32>, AllocError> {
+    let mut numbers = Vec::new(alloc);
+    for field in line.split(is_space).skip(1) {
+        if let Some(number) = read_number(field) {
+            numbers.push(number)?;
         }
-        (kind, [_, parent, offset, cowns @ ..]) => {
-            put_spawn(said, &run, kind, [*parent, *offset], cowns)
-        }
+    }
+    Ok(numbers)
+}
+
+// Reports why a start, an end or a spawn with these numbers can't be.
+fn put_event(said: &mut Said, run: &Judge, kind: RecordFaultKind, numbers: &[u32]) -> Told {
+    if kind == RecordFaultKind::StartNotAllowed
+        && let [row] = numbers
+    {
+        return put_start(said, run, *row);
+    }
+    if kind == RecordFaultKind::EndNotAllowed
+        && let [row, ticks, _, written @ ..] = numbers
+    {
+        return put_end(said, run, *row, *ticks, written);
+    }
+    match numbers {
+        [_, parent, offset, cowns @ ..] => put_spawn(said, run, kind, [*parent, *offset], cowns),
         _ => Ok(()),
     }
 }
@@ -47,53 +63,82 @@ fn put_spawn(
     [parent, offset]: [u32; 2],
     cowns: &[u32],
 ) -> Told {
+    let count = run.count() as u64;
     let is_full = run.count() >= MOST_ROWS;
     let is_main = run.count() == 0;
-    let reason = match kind {
-        RecordFaultKind::NumberNotNext if is_full => {
-            "a run has at most 65535 rows, and this is one more"
+    if let Some(reason) = flat_reason(kind, is_full, is_main) {
+        said.about(reason, &[])?;
+        if is_full {
+            said.words(FEWER_ROWS)?;
         }
-        RecordFaultKind::TooMany => "a run has at most 65535 rows",
-        RecordFaultKind::NumberNotNext => {
-            return said.about("the next row is ", &[Number(run.count() as u64)]);
-        }
-        RecordFaultKind::ParentNotRunning if is_main => "row 0 is main; its parent must be 0",
-        RecordFaultKind::Offset if is_main => "row 0 is main; its offset must be 0",
-        RecordFaultKind::Cowns if is_main => "row 0 is main, which has no cowns",
-        RecordFaultKind::ParentNotRunning => {
-            let words = match life_of(run, parent) {
-                None => "row {}, its parent, is not spawned yet",
-                Some(Life::Pending) => "row {}, its parent, hasn't started",
-                Some(_) => "row {}, its parent, has ended",
-            };
-            return said.about(words, &[number(parent)]);
-        }
-        RecordFaultKind::Offset => return put_offset(said, run, parent, offset),
-        _ => return put_cowns(said, run.cowns(), cowns),
-    };
-    said.about(reason, &[])?;
-    if is_full {
-        said.words(FEWER_ROWS)?;
+        return Ok(());
     }
-    Ok(())
+    match kind {
+        RecordFaultKind::NumberNotNext => said.about("the next row is ", &[Number(count)]),
+        RecordFaultKind::ParentNotRunning => {
+            said.about(parent_words(life_of(run, parent)), &[number(parent)])
+        }
+        RecordFaultKind::Offset => put_offset(said, run, parent, offset),
+        _ => put_cowns(said, run.cowns(), cowns),
+    }
+}
+
+// Returns why no row can be spawned so whatever its numbers are: the run is full, or has no row yet, and the first is main.
+fn flat_reason(kind: RecordFaultKind, is_full: bool, is_main: bool) -> Option<&'static str> {
+    if kind == RecordFaultKind::TooMany {
+        return Some("a run has at most 65535 rows");
+    }
+    if kind == RecordFaultKind::NumberNotNext {
+        return if is_full {
+            Some("a run has at most 65535 rows, and this is one more")
+        } else {
+            None
+        };
+    }
+    if !is_main {
+        return None;
+    }
+    match kind {
+        RecordFaultKind::ParentNotRunning => Some("row 0 is main; its parent must be 0"),
+        RecordFaultKind::Offset => Some("row 0 is main; its offset must be 0"),
+        RecordFaultKind::Cowns => Some("row 0 is main, which has no cowns"),
+        _ => None,
+    }
+}
+
+// Returns how far a parent has come that doesn't run.
+fn parent_words(life: Option<Life>) -> &'static str {
+    match life {
+        None => "row {}, its parent, is not spawned yet",
+        Some(Life::Pending) => "row {}, its parent, hasn't started",
+        Some(_) => "row {}, its parent, has ended",
+    }
 }
 
 fn put_offset(said: &mut Said, run: &Judge, parent: u32, offset: u32) -> Told {
-    match last_child(run.rows(), parent) {
-        _ if offset > MOST_TICKS => said.about("an offset is at most 1000000", &[])?,
-        None => return said.about("an offset is at least 1", &[]),
-        Some((child, MOST_TICKS)) => said.about(
-            "row {} spawned row {} at its tick 1000000, the largest offset, and can spawn no more",
-            &[number(parent), Number(child)],
-        )?,
-        Some((child, tick)) => {
-            let least = number(tick.saturating_add(1));
-            return said.about(
-                "row {} spawned row {} at its tick {}, so the offset is at least ",
-                &[number(parent), Number(child), number(tick), least],
-            );
-        }
+    if offset > MOST_TICKS {
+        said.about("an offset is at most 1000000", &[])?;
+        return said.words(COARSER_TICKS);
     }
+    match last_child(run.rows(), parent) {
+        Some((child, tick)) => put_after(said, parent, child, tick),
+        None => said.about("an offset is at least 1", &[]),
+    }
+}
+
+// Reports from which tick on a row can spawn that spawned its last child at this one.
+fn put_after(said: &mut Said, parent: u32, child: u64, tick: u32) -> Told {
+    if tick != MOST_TICKS {
+        let least = number(tick.saturating_add(1));
+        return said.about(
+            "row {} spawned row {} at its tick {}, so the offset is at least ",
+            &[number(parent), Number(child), number(tick), least],
+        );
+    }
+    said.about(
+        "row {} spawned row {} at its tick 1000000, the largest offset, and can spawn no more",
+        &[number(parent), Number(child)],
+    )?;
     said.words(COARSER_TICKS)
 }
 
@@ -164,6 +209,11 @@ fn put_end(said: &mut Said, run: &Judge, row: u32, ticks: u32, written: &[u32]) 
         said.about("{} ticks; a row takes at most 1000000", &[number(ticks)])?;
         return said.words(COARSER_TICKS);
     }
+    put_running_end(said, run, row, ticks, written)
+}
+
+// Reports why a row that runs can't end so, after no more ticks than a row may take.
+fn put_running_end(said: &mut Said, run: &Judge, row: u32, ticks: u32, written: &[u32]) -> Told {
     if let Some((child, tick)) = last_child(run.rows(), row)
         && tick > ticks
     {
@@ -176,6 +226,11 @@ fn put_end(said: &mut Said, run: &Judge, row: u32, ticks: u32, written: &[u32]) 
     if ticks == 0 {
         return said.about("0 ticks; a row takes at least 1", &[]);
     }
+    put_written(said, run, row, written)
+}
+
+// Reports why a row can't have written these cowns.
+fn put_written(said: &mut Said, run: &Judge, row: u32, written: &[u32]) -> Told {
     let own = match run.cowns_of(row) {
         Some(own) => own.widened(),
         None => Cowns::new(),

@@ -131,25 +131,45 @@ fn put_files(
     command: &[u8],
     told: &[u8],
 ) -> Result<bool, AllocError> {
-    let mut files: Vec<&[u8]> = Vec::new(said.alloc);
-    for word in operands(said.alloc, words)? {
+    let files = files_of(said.alloc, words, command)?;
+    let [first, second, ..] = files.as_slice() else {
+        return Ok(false);
+    };
+    if !is_refused(told, second) {
+        return Ok(false);
+    }
+    put_two_files(said, command, [*first, *second])?;
+    Ok(true)
+}
+
+// The words that name files: of `whatif` those that don't look like edits.
+fn files_of<'w>(
+    alloc: Global,
+    words: &'w [String],
+    command: &[u8],
+) -> Result<Vec<&'w [u8]>, AllocError> {
+    let mut files: Vec<&'w [u8]> = Vec::new(alloc);
+    for word in operands(alloc, words)? {
         if command != WHATIF || !is_edit(word) {
             files.push(word)?;
         }
     }
-    let [first, second, ..] = files.as_slice() else {
-        return Ok(false);
-    };
-    let is_refused = match told.strip_prefix(UNEXPECTED) {
-        Some(rest) => match rest.strip_prefix(*second) {
+    Ok(files)
+}
+
+// The parser's text refuses this file, the second one.
+fn is_refused(told: &[u8], second: &[u8]) -> bool {
+    match told.strip_prefix(UNEXPECTED) {
+        Some(rest) => match rest.strip_prefix(second) {
             Some(behind) => behind.starts_with(b"' found"),
             None => false,
         },
         None => told.starts_with(TWO_FILES),
-    };
-    if !is_refused {
-        return Ok(false);
     }
+}
+
+// Reports that two words name files.
+fn put_two_files(said: &mut Said, command: &[u8], [first, second]: [&[u8]; 2]) -> Told {
     said.tell(
         "{} and {} are two FILEs, but the input is read from one",
         &[Quote(first), Quote(second)],
@@ -157,7 +177,7 @@ fn put_files(
     if command == WHATIF {
         said.words("an argument with neither = nor @ is a FILE, and each other one an edit")?;
     }
-    Ok(true)
+    Ok(())
 }
 
 // Reports by which option a command takes the program or the record, where this text refuses that of other commands.
@@ -185,14 +205,22 @@ fn operands<'w>(alloc: Global, words: &'w [String]) -> Result<Vec<&'w [u8]>, All
             is_value = false;
         } else if is_option {
             only_operands = word == b"--".as_slice();
-            for option in WITH_VALUE.split(' ') {
-                is_value |= option.as_bytes() == word;
-            }
+            is_value = has_value(word);
         } else {
             found.push(word)?;
         }
     }
     Ok(found)
+}
+
+// The word after this option is its value.
+fn has_value(word: &[u8]) -> bool {
+    for option in WITH_VALUE.split(' ') {
+        if option.as_bytes() == word {
+            return true;
+        }
+    }
+    false
 }
 
 // A word looks like an edit.

@@ -41,16 +41,34 @@ pub fn explain_edit(
 {
     let mut said = Said::new(alloc);
     said.set_subject(word.as_bytes())?;
-    if text.whole
-        && let Some(names) = names_for(alloc, text.bytes, naming, edits)?
-    {
-        let mut made = Vec::new(alloc);
-        for asked in edits {
-            put_edits(&mut made, &names, asked)?;
-        }
-        put_unfit(&mut said, text.bytes, &made, fault)?;
+    if text.whole {
+        put_last(&mut said, text.bytes, naming, edits, fault)?;
     }
     said.into_text(None)
+}
+
+// Reports why the rows of a record can't take the last of these edits, where it is known what rows are called.
+fn put_last(
+    said: &mut Said,
+    text: &[u8],
+    naming: Naming<'_>,
+    edits: &[Asked],
+    fault: EditFault,
+) -> Told {
+    let Some(names) = names_for(said.alloc, text, naming, edits)? else {
+        return Ok(());
+    };
+    let made = edits_of(said.alloc, &names, edits)?;
+    put_unfit(said, text, &made, fault)
+}
+
+// The edits of rows that these edits are.
+fn edits_of(alloc: Global, names: &Names, edits: &[Asked]) -> Result<Vec<Edit>, AllocError> {
+    let mut made = Vec::new(alloc);
+    for asked in edits {
+        put_edits(&mut made, names, asked)?;
+    }
+    Ok(made)
 }
 
 /// Returns what is reported of an edit that the rows of a program's run can't take, whose word this is. The program doesn't say which rows these are.

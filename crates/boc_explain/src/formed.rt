@@ -89,43 +89,65 @@ pub(crate) fn put_form(said: &mut Said, line: &[u8], is_first: bool) -> Told {
     if put_many_cowns(said, line, is_first)? || put_common(said, line, OF_RECORDS)? {
         return Ok(());
     }
-    let reason = match line {
-        [] => return said.words("a record has no empty lines"),
-        [b'#', ..] => "a record has no comments",
-        [b'@' | b'=', b' ', b'0'..=b'9', ..] => "names go in a file of their own, for --names",
-        [b'.', ..] => "the last line is only `.`",
-        [sign @ (b'+' | b'>' | b'<'), b' ', fields @ ..] => {
-            return put_fields(said, line, *sign, fields, is_first);
-        }
-        [b'+' | b'>' | b'<'] => "no numbers after the sign",
-        [b'+' | b'>' | b'<', ..] => "no space after the sign",
-        [b' ', ..] => "it begins with a space",
-        [b'b', b'o', b'c', b' ', ..] => {
-            "another record begins here, before the last line `.` of this one"
+    if line.is_empty() {
+        return said.words("a record has no empty lines");
+    }
+    if let [sign @ (b'+' | b'>' | b'<'), b' ', fields @ ..] = line {
+        return put_fields(said, line, *sign, fields, is_first);
+    }
+    said.about(form_words(line), &[])
+}
+
+// Returns what is wrong with a line that has no fields after a sign.
+fn form_words(line: &[u8]) -> &'static str {
+    if line.starts_with(b"boc ") {
+        return "another record begins here, before the last line `.` of this one";
+    }
+    if let [b'@' | b'=', b' ', b'0'..=b'9', ..] = line {
+        return "names go in a file of their own, for --names";
+    }
+    match line.first() {
+        Some(b'#') => "a record has no comments",
+        Some(b'.') => "the last line is only `.`",
+        Some(b' ') => "it begins with a space",
+        Some(b'+' | b'>' | b'<') => {
+            if line.len() == 1 {
+                "no numbers after the sign"
+            } else {
+                "no space after the sign"
+            }
         }
         _ => "a line begins with `+`, `>` or `<`, and the last one is `.`",
-    };
-    said.about(reason, &[])
+    }
 }
 
 // How many numbers of a spawn or of an end are no cowns.
 const NOT_COWNS: usize = 3;
 
-// Reports of a line that it has too many cowns, and answers whether that is so. A line that is too long was not read to its end, and may have more.
-fn put_many_cowns(said: &mut Said, line: &[u8], is_first: bool) -> Result<bool, AllocError> {
-    let fields = match line {
-        [b'+', b' ', fields @ ..] => fields,
-        [b'<', b' ', fields @ ..] if !is_first => fields,
-        _ => return Ok(false),
-    };
+// Returns how many numbers these fields are; 0 where one of them is none.
+fn numbers_of(fields: &[u8]) -> usize {
     let mut count: usize = 0;
     for field in fields.split(is_space) {
         if read_number(field).is_none() {
-            return Ok(false);
+            return 0;
         }
         count = count.saturating_add(1);
     }
-    let count = count.saturating_sub(NOT_COWNS);
+    count
+}
+
+// Reports of a line that it has too many cowns, and answers whether that is so. A line that is too long was not read to its end, and may have more.
+fn put_many_cowns(said: &mut Said, line: &[u8], is_first: bool) -> Result<bool, AllocError> {
+    let fields = match line {
+        [sign @ (b'+' | b'<'), b' ', fields @ ..] => {
+            if *sign == b'<' && is_first {
+                return Ok(false);
+            }
+            fields
+        }
+        _ => return Ok(false),
+    };
+    let count = numbers_of(fields).saturating_sub(NOT_COWNS);
     if count <= MOST_HELD {
         return Ok(false);
     }
@@ -154,11 +176,19 @@ fn put_fields(said: &mut Said, line: &[u8], sign: u8, fields: &[u8], is_first: b
         }
         count = count.saturating_add(1);
     }
-    let (form, least, most) = match sign {
-        b'+' => ("`+ ROW PARENT OFFSET COWN ..`, with at most 8 cowns", 3, 11),
-        b'>' => ("`> ROW`", 1, 1),
-        _ if is_first => ("`< ROW TICKS STATUS`, in version 1 without cowns", 3, 3),
-        _ => ("`< ROW TICKS STATUS COWN ..`, with at most 8 cowns", 3, 11),
+    put_numbers(said, sign, count, third, is_first)
+}
+
+// Reports what is wrong with the count of the numbers of a line, or with the third of them.
+fn put_numbers(said: &mut Said, sign: u8, count: usize, third: u32, is_first: bool) -> Told {
+    let (form, least, most) = if sign == b'+' {
+        ("`+ ROW PARENT OFFSET COWN ..`, with at most 8 cowns", 3, 11)
+    } else if sign == b'>' {
+        ("`> ROW`", 1, 1)
+    } else if is_first {
+        ("`< ROW TICKS STATUS`, in version 1 without cowns", 3, 3)
+    } else {
+        ("`< ROW TICKS STATUS COWN ..`, with at most 8 cowns", 3, 11)
     };
     if count < least || count > most {
         let parts = [Many(count as u64, "number"), Words(form)];

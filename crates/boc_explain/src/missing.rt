@@ -29,27 +29,50 @@ pub fn explain_cown(
     ensures { IfOk result (λ told. AreLines (string_bytes told)) }
 {
     let mut said = Said::new(alloc);
-    let name = name.as_bytes();
-    let is_number = read_number(name).is_some();
-    let naming = if is_number { Naming::Numbers } else { naming };
-    let known = match naming {
-        Naming::Program(program) => cowns_of(alloc, program)?,
-        Naming::Names(file) => named_in(alloc, text, file, false)?,
-        Naming::Numbers => None,
-    };
-    match (known, counted(alloc, text.bytes)?) {
-        (Some(known), _) => put_missing(&mut said, "no cown is called ", name, known)?,
-        (None, Some((whose, 0))) => {
-            said.set_subject(name)?;
-            said.about("the {} has no cowns", &[Words(whose)])?;
-        }
-        (None, Some((whose, count))) => said.tell(
-            "no cown is called {}; the {} has cowns 0 to ",
-            &[Quote(name), Words(whose), Number(count.saturating_sub(1))],
-        )?,
-        (None, None) => {}
-    }
+    put_no_cown(&mut said, text, naming, name.as_bytes())?;
     said.into_text(None)
+}
+
+// Reports which cowns there are, as they are called, or else by their numbers.
+fn put_no_cown(said: &mut Said, text: Text<'_>, naming: Naming<'_>, name: &[u8]) -> Told {
+    let known = known_cowns(said.alloc, text, naming, name)?;
+    let counted = counted(said.alloc, text.bytes)?;
+    if let Some(known) = known {
+        return put_missing(said, "no cown is called ", name, known);
+    }
+    match counted {
+        Some((whose, count)) => put_counted(said, name, whose, count),
+        None => Ok(()),
+    }
+}
+
+// The cowns as they are called, where one is wanted by no number.
+fn known_cowns(
+    alloc: Global,
+    text: Text<'_>,
+    naming: Naming<'_>,
+    name: &[u8],
+) -> Result<Option<Known>, AllocError> {
+    if read_number(name).is_some() {
+        return Ok(None);
+    }
+    match naming {
+        Naming::Program(program) => cowns_of(alloc, program),
+        Naming::Names(file) => named_in(alloc, text, file, false),
+        Naming::Numbers => Ok(None),
+    }
+}
+
+// Reports how many cowns an input has.
+fn put_counted(said: &mut Said, name: &[u8], whose: &'static str, count: u64) -> Told {
+    if count == 0 {
+        said.set_subject(name)?;
+        return said.about("the {} has no cowns", &[Words(whose)]);
+    }
+    said.tell(
+        "no cown is called {}; the {} has cowns 0 to ",
+        &[Quote(name), Words(whose), Number(count.saturating_sub(1))],
+    )
 }
 
 // What an input is, and how many cowns it has, the members of arrays counted.
@@ -73,29 +96,34 @@ pub fn explain_def(
     ensures { IfOk result (λ told. AreLines (string_bytes told)) }
 {
     let mut said = Said::new(alloc);
-    let name = name.as_bytes();
+    put_no_def(&mut said, text, naming, name.as_bytes())?;
+    said.into_text(None)
+}
+
+// Reports which defs there are, or why none can be called so.
+fn put_no_def(said: &mut Said, text: Text<'_>, naming: Naming<'_>, name: &[u8]) -> Told {
     let known = match naming {
         Naming::Numbers => {
-            said.tell(
+            return said.tell(
                 "no row belongs to a def {}; without either file each row is a def of its own, such as `row 0`",
                 &[Quote(name)],
-            )?;
-            None
+            );
         }
-        Naming::Program(program) => defs_of(alloc, program)?,
-        Naming::Names(_) if looks_like_program(text.bytes) => {
-            said.tell(
-                "no row belongs to a def {}; names in --names FILE replace those of the program",
-                &[Quote(name)],
-            )?;
-            None
+        Naming::Program(program) => defs_of(said.alloc, program)?,
+        Naming::Names(file) => {
+            if looks_like_program(text.bytes) {
+                return said.tell(
+                    "no row belongs to a def {}; names in --names FILE replace those of the program",
+                    &[Quote(name)],
+                );
+            }
+            named_in(said.alloc, text, file, true)?
         }
-        Naming::Names(file) => named_in(alloc, text, file, true)?,
     };
-    if let Some(known) = known {
-        put_missing(&mut said, "no row belongs to a def ", name, known)?;
+    match known {
+        Some(known) => put_missing(said, "no row belongs to a def ", name, known),
+        None => Ok(()),
     }
-    said.into_text(None)
 }
 
 fn defs_of(alloc: Global, program: &[u8]) -> Result<Option<Known>, AllocError> {
@@ -157,14 +185,19 @@ fn named_in(
             ["; the file names no cown", "; the file's cowns are ", ""],
         )
     };
+    let names = without_blanks(alloc, all)?;
+    Ok(Some(Known { names, words }))
+}
+
+// Those of the names that a file gives. What it names has no blank; what it doesn't is called as `row 2`.
+fn without_blanks(alloc: Global, all: Vec<Vec<u8>>) -> Result<Vec<Vec<u8>>, AllocError> {
     let mut names = Vec::new(alloc);
     for name in all {
-        // What a file names has no blank; what it doesn't is called as `row 2`.
         if !name.contains(&b' ') {
             names.push(name)?;
         }
     }
-    Ok(Some(Known { names, words }))
+    Ok(names)
 }
 
 // Reports that none is called so, and which there are.

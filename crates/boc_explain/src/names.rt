@@ -6,16 +6,18 @@ ghost use Rattle.boc_said.specs.Lines.{AreLinesOf};
 
 use crate::formed::{column_of, is_feed, is_space, put_common, put_no_number};
 use crate::run::{line_at, run_before};
-use boc_follow::follow_record;
+use boc_follow::{Follower, follow_record};
 use boc_names::{
     MOST_NAMES, Names, NamesFault, NamesFaultKind, names_of_run, numbers_as_names, read_names,
 };
 use boc_program::limits::{MOST_COWNS, MOST_ROWS};
+use boc_program::program::Program;
 use boc_program::text::Name;
 use boc_progress::Silent;
 use boc_reader::{DefListing, read_listed, read_program};
 use boc_record::read_record;
 use boc_registers::compiled::CompiledProgram;
+use boc_runs::record::Record;
 use boc_said::place::{Text, is_first_word, looks_like_record};
 use boc_said::said::Part::{Number, Quote, Words};
 use boc_said::said::{Said, Told};
@@ -234,10 +236,29 @@ pub(crate) fn names_by_program(
     let Ok(record) = read_record(alloc, &mut Bytes::new(Vec::from_slice(alloc, text)?)) else {
         return Ok(None);
     };
-    let compiled = CompiledProgram::new(alloc, &program)?;
-    let Ok(follower) = follow_record(alloc, &compiled, &record, &mut Silent) else {
-        return Ok(None);
-    };
+    names_of_record(alloc, &program, listings, &record)
+}
+
+// Returns the names of the rows of a record as this program has them, whose defs are listed so. None where it is of no run of the program.
+fn names_of_record(
+    alloc: Global,
+    program: &Program,
+    listings: Vec<DefListing>,
+    record: &Record,
+) -> Result<Option<Names>, AllocError> {
+    let compiled = CompiledProgram::new(alloc, program)?;
+    match follow_record(alloc, &compiled, record, &mut Silent) {
+        Ok(follower) => names_of_followed(alloc, &follower, listings),
+        Err(_) => Ok(None),
+    }
+}
+
+// Returns the names of the rows of a run that was followed, whose defs are listed so.
+fn names_of_followed(
+    alloc: Global,
+    follower: &Follower<'_>,
+    listings: Vec<DefListing>,
+) -> Result<Option<Names>, AllocError> {
     let rows = follower.instances(alloc)?;
     let names = names_of_run(alloc, follower.program(), &called(alloc, listings)?, &rows)?;
     Ok(Some(names))
@@ -254,9 +275,14 @@ pub(crate) fn names_by_file(
         return Ok(None);
     }
     let numbers = numbers_as_names(alloc, run.count() as u32, run.cowns())?;
-    let Some(file) = file else {
-        return Ok(Some(numbers));
-    };
+    match file {
+        Some(file) => named_in(alloc, file, numbers),
+        None => Ok(Some(numbers)),
+    }
+}
+
+// Returns the names that a file gives to the rows and the cowns with these numbers. None where they can't be reported.
+fn named_in(alloc: Global, file: &[u8], numbers: Names) -> Result<Option<Names>, AllocError> {
     let fits = numbers.defs.len() == numbers.rows.len()
         && numbers.rows.len() <= MOST_ROWS
         && numbers.families.len() == numbers.cowns.len()

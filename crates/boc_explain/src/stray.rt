@@ -13,6 +13,7 @@ use boc_follow::{Follower, StrayFault, StrayFaultKind, TakeFault};
 use boc_names::{CownNames, behaviour_text, def_names};
 use boc_program::cowns::rising_cowns;
 use boc_program::limits::MOST_COWNS;
+use boc_program::program::Program;
 use boc_program::short::{CownNo, Cowns};
 use boc_reader::read_listed;
 use boc_record::{put_line, read_record};
@@ -78,17 +79,47 @@ fn put_at(said: &mut Said, text: &[u8], program: &[u8], place: usize) -> Result<
         return Ok(false);
     };
     let defs = def_names(alloc, &called(alloc, listings)?)?;
-    let compiled = CompiledProgram::new(alloc, &program)?;
-    let mut run = Follower::new(alloc, &compiled)?;
-    let Some(event) = event_at(&mut run, &record, place)? else {
+    put_of_program(
+        said,
+        &program,
+        &record,
+        &defs,
+        place,
+        is_first_version(text),
+    )
+}
+
+// Reports what this program, whose defs are called so, does instead of the event at this place of the record. Answers whether that is known.
+fn put_of_program(
+    said: &mut Said,
+    program: &Program,
+    record: &Record,
+    defs: &[Vec<u8>],
+    place: usize,
+    is_first: bool,
+) -> Result<bool, AllocError> {
+    let compiled = CompiledProgram::new(said.alloc, program)?;
+    let mut run = Follower::new(said.alloc, &compiled)?;
+    put_instead(said, &mut run, record, defs, place, is_first)
+}
+
+// Reports what a program that runs does instead of the event at this place of the record. Answers whether that is known.
+fn put_instead(
+    said: &mut Said,
+    run: &mut Follower<'_>,
+    record: &Record,
+    defs: &[Vec<u8>],
+    place: usize,
+    is_first: bool,
+) -> Result<bool, AllocError> {
+    let Some(event) = event_at(run, record, place)? else {
         return Ok(false);
     };
-    let Some(next) = next_of(&run, row_of(&event)) else {
+    let Some(next) = next_of(run, row_of(&event)) else {
         return Ok(false);
     };
-    let is_first = is_first_version(text);
     put_next(said, &next, &event, is_first)?;
-    put_names(said, &run, &defs, &event)?;
+    put_names(said, run, defs, &event)?;
     put_differences(said, &next, &event, is_first)?;
     Ok(true)
 }

@@ -551,7 +551,7 @@ const _: () = prove!(MOST_TICKS == 1_000_000);
 // Every command, in the order of help.
 //
 // One more is a place here, a variant of `Kind` with its entry, and its `signature_of` and a place in `every_kind`; a variant of
-// `Command`; an arm of `asked`; and a line of `Asks`.
+// `Command`; an arm of `asked` with its function; and a line of `Asks`.
 const EVERY_KIND: &[Kind] = &[
     Kind::Values,
     Kind::Check,

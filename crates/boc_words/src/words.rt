@@ -4,6 +4,7 @@ ghost use Rattle.boc_words.specs.Commands.{IsNumberOf, best_option, depth_option
 ghost use Rattle.boc_words.specs.Commands.{then_option, workers_option};
 ghost use Rattle.boc_words.specs.EditWords.{is_edit};
 ghost use Rattle.boc_words.specs.Tables.{option_of};
+ghost use Rattle.boc_words.specs.declared.commands.Kind.TheVariants as called;
 ghost use Rattle.boc_words.specs.Words.{AreCowns, AreEdits, IsWhatIfFile, AreRunners, AreShared, AreTaken, AreUpTo, AreWorkers, Asks};
 ghost use Rattle.boc_words.specs.Words.{GivesFile, GivesNumber, IsAsked, IsCownText, IsGiven, IsMisnamed, IsNamed, IsOfEditWords, IsOfError};
 ghost use Rattle.boc_words.specs.Words.{IsOfFiles, IsOfKind, IsOfNoText, IsOfNumber, IsOfSweep, IsOver, IsRefused, IsRunFile, IsTextOfKind, IsUnread};
@@ -195,81 +196,169 @@ fn asked(alloc: Global, kind: Kind, matches: &ArgMatches) -> Result<Command, Wor
     ensures refused { IfErr result (IsUnread kind (rows_of (found_of matches.now))) }
 {
     match kind {
-        Kind::Values => Ok(Command::Values {
-            record: file_asked(alloc, matches, &RECORD)?,
-            quiet: is_set(texts_at(matches, QUIET.id)),
-        }),
-        Kind::Check => Ok(Command::Check {
-            program: file_asked(alloc, matches, &PROGRAM)?,
-        }),
-        Kind::Run => Ok(Command::Run {
-            schedule: schedule_asked(alloc, matches)?,
-            quiet: is_set(texts_at(matches, QUIET.id)),
-        }),
-        Kind::Profile => Ok(Command::Profile {
-            asked: AskedProfile {
-                schedule: schedule_asked(alloc, matches)?,
-                plans: plans_asked(alloc, matches)?,
-                sharing: sharing_asked(matches),
-                quiet: is_set(texts_at(matches, QUIET.id)),
-            },
-            record: file_asked(alloc, matches, &RECORD)?,
-        }),
-        Kind::Time => Ok(Command::Time {
-            schedule: schedule_asked(alloc, matches)?,
-            plans: plans_asked(alloc, matches)?,
-            sharing: sharing_asked(matches),
-            quiet: is_set(texts_at(matches, QUIET.id)),
-        }),
-        Kind::WhatIf => Ok(Command::WhatIf {
-            file: whatif_file_asked(alloc, matches)?,
-            schedule: schedule_asked(alloc, matches)?,
-            cowns: cowns_asked(alloc, matches)?,
-            edits: edits_asked(alloc, matches)?,
-            plans: plans_asked(alloc, matches)?,
-            sharing: sharing_asked(matches),
-            short: is_set(texts_at(matches, SHORT.id)),
-        }),
-        Kind::Curve => Ok(Command::Curve {
-            asked: AskedCurve {
-                schedule: schedule_asked(alloc, matches)?,
-                most: most_asked(alloc, matches)?,
-                sharing: sharing_asked(matches),
-            },
-            record: file_asked(alloc, matches, &RECORD)?,
-        }),
-        Kind::Sweep => Ok(Command::Sweep {
-            asked: AskedSweep {
-                over: over_asked(alloc, matches)?,
-                schedule: schedule_asked(alloc, matches)?,
-                sharing: sharing_asked(matches),
-                best: small_number_asked(alloc, matches, &BEST)?,
-            },
-            file: run_file_asked(alloc, matches)?,
-        }),
-        Kind::Why => Ok(Command::Why {
-            asked: AskedWhy {
-                schedule: schedule_asked(alloc, matches)?,
-                workers: workers_asked(alloc, matches)?,
-                sharing: sharing_asked(matches),
-                all: is_set(texts_at(matches, ALL.id)),
-                then: small_number_asked(alloc, matches, &THEN)?,
-                quiet: is_set(texts_at(matches, QUIET.id)),
-            },
-            file: run_file_asked(alloc, matches)?,
-        }),
-        Kind::Cowns => Ok(Command::Cowns {
-            asked: AskedCowns {
-                schedule: schedule_asked(alloc, matches)?,
-                workers: workers_asked(alloc, matches)?,
-                sharing: sharing_asked(matches),
-                top: small_number_asked(alloc, matches, &TOP)?,
-                quiet: is_set(texts_at(matches, QUIET.id)),
-            },
-            file: run_file_asked(alloc, matches)?,
-        }),
-        Kind::Outcomes => Ok(Command::Outcomes(draws_asked(alloc, matches)?)),
+        Kind::Values => asked_values(alloc, matches),
+        Kind::Check => asked_check(alloc, matches),
+        Kind::Run => asked_run(alloc, matches),
+        Kind::Profile => asked_profile(alloc, matches),
+        Kind::Time => asked_time(alloc, matches),
+        Kind::WhatIf => asked_whatif(alloc, matches),
+        Kind::Curve => asked_curve(alloc, matches),
+        Kind::Sweep => asked_sweep(alloc, matches),
+        Kind::Why => asked_why(alloc, matches),
+        Kind::Cowns => asked_cowns(alloc, matches),
+        Kind::Outcomes => asked_outcomes(alloc, matches),
     }
+}
+
+// Returns what `values` has to do, by what was found for it.
+fn asked_values(alloc: Global, matches: &ArgMatches) -> Result<Command, WordsFault>
+    ensures asked { IfOk result (Asks called.Values (rows_of (found_of matches.now))) }
+    ensures refused { IfErr result (IsUnread called.Values (rows_of (found_of matches.now))) }
+{
+    Ok(Command::Values {
+        record: file_asked(alloc, matches, &RECORD)?,
+        quiet: is_set(texts_at(matches, QUIET.id)),
+    })
+}
+
+// Returns what `check` has to do, by what was found for it.
+fn asked_check(alloc: Global, matches: &ArgMatches) -> Result<Command, WordsFault>
+    ensures asked { IfOk result (Asks called.Check (rows_of (found_of matches.now))) }
+    ensures refused { IfErr result (IsUnread called.Check (rows_of (found_of matches.now))) }
+{
+    Ok(Command::Check {
+        program: file_asked(alloc, matches, &PROGRAM)?,
+    })
+}
+
+// Returns what `run` has to do, by what was found for it.
+fn asked_run(alloc: Global, matches: &ArgMatches) -> Result<Command, WordsFault>
+    ensures asked { IfOk result (Asks called.Run (rows_of (found_of matches.now))) }
+    ensures refused { IfErr result (IsUnread called.Run (rows_of (found_of matches.now))) }
+{
+    Ok(Command::Run {
+        schedule: schedule_asked(alloc, matches)?,
+        quiet: is_set(texts_at(matches, QUIET.id)),
+    })
+}
+
+// Returns what `profile` has to do, by what was found for it.
+fn asked_profile(alloc: Global, matches: &ArgMatches) -> Result<Command, WordsFault>
+    ensures asked { IfOk result (Asks called.Profile (rows_of (found_of matches.now))) }
+    ensures refused { IfErr result (IsUnread called.Profile (rows_of (found_of matches.now))) }
+{
+    Ok(Command::Profile {
+        asked: AskedProfile {
+            schedule: schedule_asked(alloc, matches)?,
+            plans: plans_asked(alloc, matches)?,
+            sharing: sharing_asked(matches),
+            quiet: is_set(texts_at(matches, QUIET.id)),
+        },
+        record: file_asked(alloc, matches, &RECORD)?,
+    })
+}
+
+// Returns what `time` has to do, by what was found for it.
+fn asked_time(alloc: Global, matches: &ArgMatches) -> Result<Command, WordsFault>
+    ensures asked { IfOk result (Asks called.Time (rows_of (found_of matches.now))) }
+    ensures refused { IfErr result (IsUnread called.Time (rows_of (found_of matches.now))) }
+{
+    Ok(Command::Time {
+        schedule: schedule_asked(alloc, matches)?,
+        plans: plans_asked(alloc, matches)?,
+        sharing: sharing_asked(matches),
+        quiet: is_set(texts_at(matches, QUIET.id)),
+    })
+}
+
+// Returns what `whatif` has to do, by what was found for it.
+fn asked_whatif(alloc: Global, matches: &ArgMatches) -> Result<Command, WordsFault>
+    ensures asked { IfOk result (Asks called.WhatIf (rows_of (found_of matches.now))) }
+    ensures refused { IfErr result (IsUnread called.WhatIf (rows_of (found_of matches.now))) }
+{
+    Ok(Command::WhatIf {
+        file: whatif_file_asked(alloc, matches)?,
+        schedule: schedule_asked(alloc, matches)?,
+        cowns: cowns_asked(alloc, matches)?,
+        edits: edits_asked(alloc, matches)?,
+        plans: plans_asked(alloc, matches)?,
+        sharing: sharing_asked(matches),
+        short: is_set(texts_at(matches, SHORT.id)),
+    })
+}
+
+// Returns what `curve` has to do, by what was found for it.
+fn asked_curve(alloc: Global, matches: &ArgMatches) -> Result<Command, WordsFault>
+    ensures asked { IfOk result (Asks called.Curve (rows_of (found_of matches.now))) }
+    ensures refused { IfErr result (IsUnread called.Curve (rows_of (found_of matches.now))) }
+{
+    Ok(Command::Curve {
+        asked: AskedCurve {
+            schedule: schedule_asked(alloc, matches)?,
+            most: most_asked(alloc, matches)?,
+            sharing: sharing_asked(matches),
+        },
+        record: file_asked(alloc, matches, &RECORD)?,
+    })
+}
+
+// Returns what `sweep` has to do, by what was found for it.
+fn asked_sweep(alloc: Global, matches: &ArgMatches) -> Result<Command, WordsFault>
+    ensures asked { IfOk result (Asks called.Sweep (rows_of (found_of matches.now))) }
+    ensures refused { IfErr result (IsUnread called.Sweep (rows_of (found_of matches.now))) }
+{
+    Ok(Command::Sweep {
+        asked: AskedSweep {
+            over: over_asked(alloc, matches)?,
+            schedule: schedule_asked(alloc, matches)?,
+            sharing: sharing_asked(matches),
+            best: small_number_asked(alloc, matches, &BEST)?,
+        },
+        file: run_file_asked(alloc, matches)?,
+    })
+}
+
+// Returns what `why` has to do, by what was found for it.
+fn asked_why(alloc: Global, matches: &ArgMatches) -> Result<Command, WordsFault>
+    ensures asked { IfOk result (Asks called.Why (rows_of (found_of matches.now))) }
+    ensures refused { IfErr result (IsUnread called.Why (rows_of (found_of matches.now))) }
+{
+    Ok(Command::Why {
+        asked: AskedWhy {
+            schedule: schedule_asked(alloc, matches)?,
+            workers: workers_asked(alloc, matches)?,
+            sharing: sharing_asked(matches),
+            all: is_set(texts_at(matches, ALL.id)),
+            then: small_number_asked(alloc, matches, &THEN)?,
+            quiet: is_set(texts_at(matches, QUIET.id)),
+        },
+        file: run_file_asked(alloc, matches)?,
+    })
+}
+
+// Returns what `cowns` has to do, by what was found for it.
+fn asked_cowns(alloc: Global, matches: &ArgMatches) -> Result<Command, WordsFault>
+    ensures asked { IfOk result (Asks called.Cowns (rows_of (found_of matches.now))) }
+    ensures refused { IfErr result (IsUnread called.Cowns (rows_of (found_of matches.now))) }
+{
+    Ok(Command::Cowns {
+        asked: AskedCowns {
+            schedule: schedule_asked(alloc, matches)?,
+            workers: workers_asked(alloc, matches)?,
+            sharing: sharing_asked(matches),
+            top: small_number_asked(alloc, matches, &TOP)?,
+            quiet: is_set(texts_at(matches, QUIET.id)),
+        },
+        file: run_file_asked(alloc, matches)?,
+    })
+}
+
+// Returns what `outcomes` has to do, by what was found for it.
+fn asked_outcomes(alloc: Global, matches: &ArgMatches) -> Result<Command, WordsFault>
+    ensures asked { IfOk result (Asks called.Outcomes (rows_of (found_of matches.now))) }
+    ensures refused { IfErr result (IsUnread called.Outcomes (rows_of (found_of matches.now))) }
+{
+    Ok(Command::Outcomes(draws_asked(alloc, matches)?))
 }
 
 // Returns the texts that were found for an argument, none where it was not given.

@@ -1,7 +1,7 @@
 use Rattle.std.proofs.Common.{subst, sym}
 use Rattle.boc_program.specs.declared.program.Program.{Program}
 use Rattle.boc_eval.specs.Instances.{AreKnown}
-use Rattle.boc_explain.proofs.names.names_by_program.Goals as goal
+use Rattle.boc_explain.proofs.names.names_of_followed.Goals as goal
 
 pub names_of_run-requires : goal.names_of_run-requires
 names_of_run-requires c =

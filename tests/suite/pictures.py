@@ -1,5 +1,6 @@
 """The program boc-view: each picture is read back, and what it shows is compared with the plans of the model."""
 import collections
+import dataclasses
 import html
 import json
 import os
@@ -64,14 +65,14 @@ NAMES = b"""= 0 <start> & "go"
 @ 0 <c>
 """
 
-# What xmllint says of an element of a drawing, which HTML didn't have before its fifth version.
-OF_A_DRAWING = re.compile(r"Tag (circle|g|line|path|polyline|rect|svg|text) invalid$")
+# What xmllint says of an element that HTML didn't have before its fifth version.
+OF_A_DRAWING = re.compile(r"Tag (circle|g|line|path|polyline|rect|svg|text|title|header|main|section|aside|canvas|figure|figcaption|details|summary) invalid$")
 
 # What is wrong with a drawing and with a page: what stands there, and what is put in its place. xmllint is to refuse each.
 BROKEN_DRAWINGS = [(b"</g>", b""), (b"row 0", b"row & 0"), (b'id="r0"', b'id="r0" id="r0"'), (b'id="r0"', b"id=r0"), (b"row 0", b"row < 0"),
                    (b"</svg>", b"</svg><p/>"), (b"row 0", b"row \x01 0"), (b"row 0", b"row \xff 0")]
-BROKEN_PAGES = [(b"</div>", b""), (b"</table>", b""), (b"</h1>", b"</h2>"), (b"</script>", b""), (b"row 0", b"row & 0"), (b'id="r1"', b'id="r0"'),
-                (b"<td>", b"<cell>"), (b"row 0", b"row \x01 0")]
+BROKEN_PAGES = [(b"</div>", b""), (b"</table>", b""), (b"</h1>", b"</h2>"), (b"</section>", b""), (b"spawns row", b"spawns & row"),
+                (b'id="tables"', b'id="curve"'), (b"<tr>", b"<cell>"), (b"spawns row", b"spawns \x01 row")]
 
 
 class Pictures:
@@ -288,16 +289,15 @@ def fault_of_drawn_curve(svg, report):
 
 
 def fault_of_told_page(page, report):
-    plan, curve = (drawing.decode() for drawing in drawings_of(page.encode()))
-    fault = fault_of_drawn_plans(plan, report) or fault_of_drawn_curve(curve, report)
-    if fault:
-        return fault
-    chain = [int(row) for row in re.findall(r'<tr data-row="(\d+)"', page[:page.index('id="sweep"')])]
-    rows = re.findall(r'<tr data-row="(\d+)">.*?<td>(\d+)</td><td>(\d+)</td><td>\d+</td><td>(\d+)</td></tr>', page[page.index('id="sweep"'):])
-    found = [tuple(map(int, row)) for row in rows]
-    if chain != report.chain or found != [(*row, span) for row, span in zip(report.plan, report.sweep)]:
-        return f"its chain is {chain}, and its rows are {found}"
-    return None if "<h2>The program</h2>" in page and "def look(n; x, y)" in page else "it lacks the program"
+    data = data_of(page.encode())
+    starts, greedy = [start for _, start, _ in report.plan], [[start, worker] for _, start, _, worker in report.greedy]
+    if (data["work"], data["span"], data["end"], data["bound"], data["p"]) != (report.work, report.span, report.end, report.bound, 3):
+        return "its numbers are others"
+    if data["chain"] != report.chain or data["start"] != starts or list(map(list, zip(data["greedyStart"], data["worker"]))) != greedy:
+        return f"its chain is {data['chain']}, and its rows start at {data['start']}"
+    if data["curve"][:3] != [list(point[1:]) for point in report.curve] or len(data["curve"]) != 64:
+        return f"its curve is {data['curve'][:3]}"
+    return None if "<h2>The program</h2>" in page and "def look(n; x, y)" in page and "def look(n; x, y)" in data["source"] else "it lacks the program"
 
 
 def fault_of_traced_plans(text, report):
@@ -438,10 +438,9 @@ def drawings(program, view, pictures):
         yield f"plan: {name}", fault_of_xml(drawn[0])
         yield f"plan: {name}: its texts are apart", next(filter(None, map(fault_of_texts, drawn[:2])), None)
         yield from pictures_of(name, drawn, rows_of(program.run(["run"], text).output)[0], pictures)
-    for path, command in (("docs/transfer.svg", ["plan"]), ("docs/pipeline.html", ["page"])):
+    for path, command in (("docs/transfer.svg", ["plan", "transfer.boc"]), ("docs/pipeline.html", ["page", "pipeline.boc"])):
         with open(os.path.join(TOP, path), "rb") as file:
-            source = program.example("transfer.boc" if command == ["plan"] else "pipeline.boc")
-            yield path, fault_of(done(file.read()), view.run(command, source))
+            yield path, fault_of(done(file.read()), view.run([command[0], os.path.join(program.examples, command[1])]))
 
 
 def drawn_of(view, sources, workers):
@@ -535,26 +534,27 @@ def said_by(xmllint, options, texts):
     return said if any(said) or run.returncode == 0 else [f"xmllint ended with {run.returncode}: {run.stderr[:80]}"] * len(texts)
 
 
+def data_of(page):
+    """The data block of a page."""
+    return json.loads(re.search(rb'<script type="application/json" id="data">(.*?)</script>', page, re.DOTALL).group(1))
+
+
 def fault_of_page(text, rows):
-    """Its drawings are XML, its tables have the sweep and the chain, and nothing comes from outside."""
-    if len(drawings_of(text)) != 2:
+    """Its drawing is XML, its data block has the rows and their plan, no sign of HTML is in it, and nothing comes from outside."""
+    if len(drawings_of(text)) != 1:
         return f"{len(drawings_of(text))} drawings"
-    faults = [fault_of_xml(it) for it in drawings_of(text)]
-    if any(faults):
-        return next(filter(None, faults))
-    if b"http" in text.replace(b"http://www.w3.org/2000/svg", b"") or b"src=" in text:
+    if fault_of_xml(drawings_of(text)[0]):
+        return fault_of_xml(drawings_of(text)[0])
+    if re.search(rb"https?:", text.replace(b"http://www.w3.org/2000/svg", b"")) or b"src=" in text:
         return "it takes something from outside"
-    table = text[text.index(b"id=\"sweep\""):]
-    spans = [int(it) for it in re.findall(rb"<td>(\d+)</td></tr>", table[:table.index(b"</table>")])]
-    wanted = [int(line.split()[1]) for line in model.sweep(rows).decode().splitlines()][:1000]
-    if spans != wanted:
-        return "its sweep is another one"
-    chain = re.findall(rb"<tr data-row=\"(\d+)\"><td>(\d+)</td><td>(\d+)</td>", text[:text.index(b"id=\"sweep\"")])
-    starts = model.earliest_starts(rows)
-    lines = [line.split() for line in model.chain(rows, starts)][:1000]
-    if [(int(row), int(start), int(ticks)) for row, start, ticks in chain] != [(int(it[0]), starts[int(it[0])], int(it[2])) for it in lines]:
-        return "its chain is another one"
-    return None
+    data, starts = data_of(text), model.earliest_starts(rows)
+    block = re.search(rb'id="data">(.*?)</script>', text, re.DOTALL).group(1)
+    if re.search(rb"[<>&\x00-\x1f]", block):
+        return "a sign that means something in HTML is in its data block"
+    columns = {"parent": [row.parent for row in rows], "offset": [row.offset for row in rows], "ticks": [row.ticks for row in rows],
+               "holds": [list(row.cowns) for row in rows], "start": starts, "chain": [int(line.split()[0]) for line in model.chain(rows, starts)]}
+    wrong = [key for key, column in columns.items() if data[key] != column]
+    return f"its {wrong[0]} is another one" if wrong else None
 
 
 def traces(view):
@@ -616,14 +616,19 @@ def words(view):
     yield "a seed brings its picture back", None if seeds == again and all(it.status == 0 for it in seeds) else "it does not"
 
 
+def called(answer, name):
+    """An answer with this name of a file in place of that of standard input."""
+    return dataclasses.replace(answer, output=answer.output.replace(b"standard input", name))
+
+
 def operands(view):
-    """A file behind the picture is read in place of standard input, and the short options are the long ones."""
+    """A file behind the picture is read in place of standard input, and the short options are the long ones. A page is called by its file."""
     transfer, record = (os.path.join(view.examples, name) for name in ("transfer.boc", "transfer.record"))
     for command in ("text", "plan", "curve", "page", "trace"):
-        wanted = view.run([command], view.example("transfer.boc"))
-        yield f"{command}: a file", fault_of(wanted, view.run([command, transfer], b"main { ? }"))
+        wanted, of_record = (view.run([command], view.example(name)) for name in ("transfer.boc", "transfer.record"))
         yield f"{command}: - is standard input", fault_of(wanted, view.run([command, "-"], view.example("transfer.boc")))
-        yield f"{command}: a record in a file", fault_of(view.run([command], view.example("transfer.record")), view.run([command, record]))
+        yield f"{command}: a file", fault_of(called(wanted, b"transfer.boc"), view.run([command, transfer], b"main { ? }"))
+        yield f"{command}: a record in a file", fault_of(called(of_record, b"transfer.record"), view.run([command, record]))
         for path, why in (("/no/such", "No such file or directory (os error 2)"), (view.examples, "Is a directory (os error 21)")):
             yield f"{command}: {path}", fault_of(refused(5, f"boc-view: {path}: {why}"), view.run([command, path], b"main { }"))
     yield "text: a file and its record", fault_of(done(TRANSFER), view.run(["text", "--record", record, transfer]))

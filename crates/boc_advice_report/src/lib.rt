@@ -14,4 +14,5 @@ pub use order::{OtherOrder, put_other_order};
 pub use steps::{StepsTold, steps_text};
 pub use together::put_together;
 pub use told::{WhyTold, why_text};
+pub use words::{put_families, put_remedy};
 pub use workers::{ForWorkers, put_verdict, put_workers};

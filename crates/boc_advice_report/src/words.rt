@@ -19,12 +19,8 @@ fn put_more_families(text: &mut Vec<u8>, names: &Names, families: &[u32]) -> Res
     Ok(())
 }
 
-/// Appends families to a text, by their names.
-pub(crate) fn put_families(
-    text: &mut Vec<u8>,
-    names: &Names,
-    families: &[u32],
-) -> Result<(), AllocError>
+/// Appends families to a text, by their names. `AllocError` says that memory was refused.
+pub fn put_families(text: &mut Vec<u8>, names: &Names, families: &[u32]) -> Result<(), AllocError>
     ensures { OnOk result (text.new.items ≡ text.old.items ++ families_text names.now families.now) }
 {
     match families {
@@ -36,12 +32,8 @@ pub(crate) fn put_families(
     }
 }
 
-/// Appends to a text what a remedy is called.
-pub(crate) fn put_remedy(
-    text: &mut Vec<u8>,
-    names: &Names,
-    remedy: &Remedy,
-) -> Result<(), AllocError>
+/// Appends to a text what a remedy is called. `AllocError` says that memory was refused.
+pub fn put_remedy(text: &mut Vec<u8>, names: &Names, remedy: &Remedy) -> Result<(), AllocError>
     ensures { OnOk result (text.new.items ≡ text.old.items ++ remedy_text names.now remedy.now) }
 {
     match remedy {

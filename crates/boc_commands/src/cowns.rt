@@ -168,8 +168,8 @@ fn judged_text<R: Threads + Sync>(
     cowns_text(alloc, names, question.sharing, most, &told)
 }
 
-// Returns what the rows take by the workers, and then the cowns by the ends of the greedy plans without them.
-fn judged<R: Threads + Sync>(
+/// Returns what the rows take by the workers, and then the cowns by the ends of the greedy plans without them. `AllocError` says that memory was refused.
+pub fn judged<R: Threads + Sync>(
     rt: &R,
     alloc: Global,
     question: &Question<'_>,

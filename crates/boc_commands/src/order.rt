@@ -13,7 +13,7 @@ use std::alloc::{AllocError, Global};
 
 /// Returns the order in which whatever can start does, with where it first goes otherwise than the rows, where it ends before their span. `AllocError` says
 /// that memory was refused.
-pub(crate) fn other_order(
+pub fn other_order(
     alloc: Global,
     question: &Question<'_>,
     span: u64,

@@ -9,3 +9,4 @@ mod verdict;
 
 pub use judged::{JudgedCown, judged_cowns};
 pub use told::{CownsTold, JudgedTold, cowns_text};
+pub use verdict::{put_shared, put_verdict};

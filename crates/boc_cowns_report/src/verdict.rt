@@ -168,12 +168,8 @@ fn put_by_cowns(
     }
 }
 
-/// Appends to a text what holds the rows back.
-pub(crate) fn put_verdict(
-    text: &mut Vec<u8>,
-    names: &Names,
-    hot: &HotCowns,
-) -> Result<(), AllocError>
+/// Appends to a text what holds the rows back. `AllocError` says that memory was refused.
+pub fn put_verdict(text: &mut Vec<u8>, names: &Names, hot: &HotCowns) -> Result<(), AllocError>
     ensures { OnOk result (text.new.items ≡ text.old.items ++ verdict_text names.now hot.now hot.now.cowns.items) }
 {
     match hot.cowns.as_slice() {
@@ -223,8 +219,8 @@ fn put_span_with(text: &mut Vec<u8>, names: &Names, hot: &HotCowns) -> Result<()
     Ok(())
 }
 
-/// Appends to a text what shared reads would save, where reads aren't shared and the span would be less.
-pub(crate) fn put_shared(
+/// Appends to a text what shared reads would save, where reads aren't shared and the span would be less. `AllocError` says that memory was refused.
+pub fn put_shared(
     text: &mut Vec<u8>,
     names: &Names,
     sharing: Sharing,

@@ -1,207 +1,116 @@
 // A page with all pictures of a run.
 
-use crate::columns::percent;
-use crate::page_parts::{SCRIPT, STYLE};
-use crate::plan_svg::{MOST_LISTED, put_cause};
-use crate::spelling::Spelling;
+use crate::def_costs::costs_of;
+use crate::html::{put, put_html, put_lines};
+use crate::page_answer::{Sentences, put_answer};
+use crate::page_curve::put_curve;
+use crate::page_frame::{
+    AFTER_DATA, BEFORE_ANSWER, BEFORE_CURVE, BEFORE_DATA, BEFORE_HEAD, BEFORE_PLAN, BEFORE_PROGRAM,
+    BEFORE_TABLES, BEFORE_TITLE,
+};
+use crate::page_program::put_program;
+use crate::page_tables::put_tables;
 use crate::subject::Subject;
-use boc_cowns::HotCown;
-use boc_names::text_at;
+use boc_cowns_report::JudgedCown;
+use boc_greedy::{CurvePoint, Greedy};
+use boc_page::{Defs, LineTicks};
+use boc_plans::sharing::Sharing;
+use boc_remedies::Advised;
 use std::alloc::{AllocError, Global};
 
-// The most bytes of a name.
-const NAME_BYTES: usize = 80;
-
-/// What a page shows with the chain: the drawings, the span that each row with its least ticks would leave, the cowns, and the program's text, which is empty
-/// for a record.
-#[derive(Drop)]
+/// What a page shows. What is text has been formed before.
+#[derive(Clone, Copy)]
 pub struct Page<'a> {
     pub subject: &'a Subject,
-    pub plan: &'a str,
-    pub curve: &'a str,
-    pub spans: &'a [u64],
-    pub cowns: &'a [HotCown],
+    /// The name of the file.
+    pub title: &'a [u8],
+    /// How the program was run; nothing where one thread ran it, or where the run is a record's.
+    pub run: &'a [u8],
+    pub defs: &'a Defs,
+    /// Why the rows take as long as they do, and what would help.
+    pub found: &'a Advised,
+    pub greedy: &'a Greedy,
+    pub points: &'a [CurvePoint],
+    /// The cowns, those first without which the greedy plan ends soonest.
+    pub judged: &'a [JudgedCown],
+    pub sentences: &'a Sentences,
+    /// The chain in text.
+    pub chain: &'a [u8],
+    /// The plan in text.
+    pub plan: &'a [u8],
+    /// The text of the program; nothing where the run is a record's.
     pub program: &'a [u8],
+    pub lines: &'a [LineTicks],
+    /// The data block.
+    pub data: &'a [u8],
 }
 
-/// Returns a page that is self-contained, in HTML.
-pub fn page_text(alloc: Global, page: &Page) -> Result<String, AllocError> {
-    let subject = page.subject;
-    let mut text = String::new(alloc);
-    text.push_str(
-        "<!DOCTYPE html>\n<html lang=\"en\">\n<head>\n<meta charset=\"utf-8\"/>\n<title>What holds this run back</title>\n",
-    )?;
-    text.push_str(STYLE)?;
-    write!(
-        text,
-        "</head>\n<body>\n<h1>What holds this run back</h1>\n<p>{} rows, work {}, span {}: with a worker for each row it would be over at tick {}.</p>\n",
-        subject.count(),
-        subject.work,
-        subject.span,
-        subject.span
-    )?;
-    text.push_str("<h2>The plan</h2>\n<div class=\"picture\">\n")?;
-    text.push_str(page.plan)?;
-    text.push_str("</div>\n<h2>The chain</h2>\n")?;
-    put_chain(alloc, &mut text, subject)?;
-    text.push_str("<h2>More workers</h2>\n<div class=\"picture\">\n")?;
-    text.push_str(page.curve)?;
-    text.push_str("</div>\n<h2>Cowns</h2>\n")?;
-    put_cowns(alloc, &mut text, page)?;
-    text.push_str("<h2>Rows</h2>\n")?;
-    put_rows(alloc, &mut text, page)?;
-    if !page.program.is_empty() {
-        text.push_str("<h2>The program</h2>\n")?;
-        put_program(alloc, &mut text, page)?;
-    }
-    text.push_str(SCRIPT)?;
-    text.push_str("</body>\n</html>\n")?;
-    Ok(text)
-}
-
-// Puts the chain, a line for each row, with links to the bars.
-fn put_chain(alloc: Global, text: &mut String, subject: &Subject) -> Result<(), AllocError> {
-    text.push_str(
-        "<table><thead><tr><th>tick</th><th>ticks</th><th>row</th><th class=\"word\">behaviour</th><th class=\"word\">why then</th></tr></thead><tbody>\n",
-    )?;
-    let mut before = None;
-    for step in subject.chain.iter().take(MOST_LISTED) {
-        let start = match subject.shown.get(step.row as usize) {
-            Some(row) => row.start,
-            None => 0,
-        };
-        let name = Spelling::Xml.of(alloc, subject.name(step.row), NAME_BYTES)?;
-        write!(
-            text,
-            "<tr data-row=\"{}\"><td>{start}</td><td>{}</td><td><a href=\"#r{}\">{}</a></td><td class=\"word\">{name}</td><td class=\"word\">",
-            step.row, step.weight, step.row, step.row
-        )?;
-        if let Some(before) = before {
-            put_cause(alloc, text, subject, before, step.row)?;
+impl Page<'_> {
+    /// Returns the place of the def with this name among those that are listed. An empty one is none.
+    pub(crate) fn place_of(&self, name: &[u8]) -> Option<usize> {
+        if name.is_empty() {
+            return None;
         }
-        text.push_str("</td></tr>\n")?;
-        before = Some(*step);
+        self.defs
+            .names
+            .iter()
+            .position(|own| own.as_slice() == name)
     }
-    text.push_str("</tbody></table>\n")?;
-    put_rest(text, subject.chain.len())
 }
 
-// Says how many rows a table leaves out.
-fn put_rest(text: &mut String, count: usize) -> Result<(), AllocError> {
-    if count > MOST_LISTED {
-        writeln!(text, "<p>and {} more</p>", count - MOST_LISTED)?;
+// Appends the title of the window to a text.
+fn put_title(text: &mut Vec<u8>, page: &Page<'_>) -> Result<(), AllocError> {
+    put_html(text, page.title)?;
+    if !page.run.is_empty() {
+        put(text, " · ")?;
+        put_html(text, page.run)?;
     }
-    Ok(())
+    put(text, " · boc")
 }
 
-// Puts the cowns, those first that are held longest.
-fn put_cowns(alloc: Global, text: &mut String, page: &Page) -> Result<(), AllocError> {
-    let subject = page.subject;
-    text.push_str(
-        "<table class=\"sort\"><thead><tr><th class=\"word\">cown</th><th>rows</th><th>wrote</th><th>held</th><th>of span</th>\
-         <th>waited</th><th>chain</th><th>without</th></tr></thead><tbody>\n",
-    )?;
-    for own in page.cowns {
-        let name = Spelling::Xml.of(alloc, subject.cown_name(own.cown), NAME_BYTES)?;
-        writeln!(
-            text,
-            "<tr><td class=\"word\">{name}</td><td>{}</td><td>{}</td><td>{}</td><td>{}%</td><td>{}</td><td>{}</td><td>{}</td></tr>",
-            own.rows,
-            own.wrote,
-            own.held,
-            percent(own.held, subject.span),
-            own.waited,
-            own.chain,
-            own.without
-        )?;
+// Appends the heading to a text: the file, how it was run, and what times are.
+fn put_heading(text: &mut Vec<u8>, page: &Page<'_>) -> Result<(), AllocError> {
+    put(text, "<div><h1>")?;
+    put_html(text, page.title)?;
+    put(text, "</h1><p>")?;
+    if !page.run.is_empty() {
+        put(text, "<bdi>")?;
+        put_html(text, page.run)?;
+        put(text, "</bdi>")?;
+    } else if page.program.is_empty() {
+        put(text, "the record of a run")?;
+    } else {
+        put(text, "run on one thread")?;
     }
-    text.push_str(
-        "</tbody></table>\n<p>held: the ticks for which one row alone has it; waited: the ticks that rows wait for the row that \
-         hands it to them; without: the span if it imposed no order, and all other orders stayed.</p>\n",
+    if page.subject.sharing == Sharing::SharedReads {
+        put(text, " · rows that only read share cowns")?;
+    }
+    put(
+        text,
+        " · times are ticks, which are counted and not measured</p></div>",
     )
 }
 
-// Puts the rows with the span that each with its least ticks would leave.
-fn put_rows(alloc: Global, text: &mut String, page: &Page) -> Result<(), AllocError> {
-    let subject = page.subject;
-    text.push_str(
-        "<table class=\"sort\" id=\"sweep\"><thead><tr><th>row</th><th class=\"word\">behaviour</th><th>start</th><th>end</th>\
-         <th>ticks</th><th>least ticks leave</th></tr></thead><tbody>\n",
-    )?;
-    for (row, span) in subject.shown.iter().zip(page.spans).take(MOST_LISTED) {
-        let number = row.row;
-        let name = Spelling::Xml.of(alloc, subject.name(number), NAME_BYTES)?;
-        writeln!(
-            text,
-            "<tr data-row=\"{number}\"><td><a href=\"#r{number}\">{number}</a></td><td class=\"word\">{name}</td><td>{}</td><td>{}</td><td>{}</td>\
-             <td>{span}</td></tr>",
-            row.start,
-            row.end,
-            row.end.saturating_sub(row.start)
-        )?;
-    }
-    text.push_str("</tbody></table>\n")?;
-    put_rest(text, subject.count())
-}
-
-// Returns how many of the chain's ticks go through the rows of a def.
-fn ticks_through(subject: &Subject, def: usize) -> u64 {
-    let mut ticks: u64 = 0;
-    for step in &subject.chain {
-        if subject.def(step.row) == def {
-            ticks = ticks.saturating_add(step.weight as u64);
-        }
-    }
-    ticks
-}
-
-// Returns the word after `def`, where a line begins so, or `main`.
-fn def_named(line: &[u8]) -> &[u8] {
-    let line = line.trim_ascii_start();
-    if line.starts_with(b"main") {
-        return b"main";
-    }
-    let Some(rest) = line.strip_prefix(b"def ") else {
-        return &[];
-    };
-    let rest = rest.trim_ascii_start();
-    let end = rest
-        .iter()
-        .position(|byte| !byte.is_ascii_alphanumeric() && *byte != b'_')
-        .unwrap_or(rest.len());
-    match rest.get(..end) {
-        Some(name) => name,
-        None => &[],
-    }
-}
-
-// Returns the def of this name.
-fn def_of(subject: &Subject, name: &[u8]) -> Option<usize> {
-    for def in 0..subject.names.def_names.len() {
-        if text_at(&subject.names.def_names, def) == name {
-            return Some(def);
-        }
-    }
-    None
-}
-
-// Puts the text of the program, with how much of the chain goes through a def with its line.
-fn put_program(alloc: Global, text: &mut String, page: &Page) -> Result<(), AllocError> {
-    let subject = page.subject;
-    for line in page.program.split(|byte| *byte == b'\n') {
-        text.push_str("<div class=\"line\"><span class=\"share\">")?;
-        if let Some(def) = def_of(subject, def_named(line)) {
-            let ticks = ticks_through(subject, def);
-            if ticks > 0 {
-                write!(
-                    text,
-                    "<b>{ticks}</b><i style=\"width:{}%\"></i>",
-                    percent(ticks, subject.span)
-                )?;
-            }
-        }
-        let line = Spelling::Xml.of(alloc, line, 400)?;
-        write!(text, "</span><pre>{line} </pre></div>\n")?;
-    }
-    Ok(())
+/// Returns a page that is self-contained, in HTML: the answer, tables and the curve, and the data block with the script that draws the plans.
+pub fn page_text(alloc: Global, page: &Page<'_>) -> Result<Vec<u8>, AllocError> {
+    let costs = costs_of(alloc, page)?;
+    let mut text = Vec::new(alloc);
+    put(&mut text, BEFORE_TITLE)?;
+    put_title(&mut text, page)?;
+    put(&mut text, BEFORE_HEAD)?;
+    put_heading(&mut text, page)?;
+    put(&mut text, BEFORE_ANSWER)?;
+    put_answer(alloc, &mut text, page)?;
+    put(&mut text, BEFORE_PLAN)?;
+    put_lines(&mut text, page.plan)?;
+    put(&mut text, BEFORE_TABLES)?;
+    put_tables(alloc, &mut text, page, &costs)?;
+    put(&mut text, BEFORE_CURVE)?;
+    put_curve(&mut text, page)?;
+    put(&mut text, BEFORE_PROGRAM)?;
+    put_program(&mut text, page, &costs)?;
+    put(&mut text, BEFORE_DATA)?;
+    text.extend_from_slice(page.data)?;
+    put(&mut text, AFTER_DATA)?;
+    Ok(text)
 }

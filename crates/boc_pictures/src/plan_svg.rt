@@ -42,8 +42,8 @@ const MOST_TITLES: usize = 20_000;
 // With more rows than this only the bars of the chain, and of the rows that a page lists, have a name that a link leads to.
 const MOST_IDS: usize = 5_000;
 
-/// The most rows that a table of a page lists.
-pub(crate) const MOST_LISTED: usize = 1_000;
+// The bars of this many first rows have names whatever their number is.
+const MOST_LISTED: usize = 1_000;
 
 /// Where the bars of a plan are.
 #[derive(Clone, Copy)]
@@ -428,7 +428,7 @@ fn left_of(subject: &Subject, layout: Layout, bar: &Bar, length: u64) -> u64 {
 }
 
 // Puts what leads on from a row of the chain to the next one.
-pub(crate) fn put_cause(
+fn put_cause(
     alloc: Global,
     text: &mut String,
     subject: &Subject,

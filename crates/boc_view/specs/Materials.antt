@@ -5,17 +5,24 @@ use Rattle.boc_program.specs.declared.limits.TheConstants.{MOST_WORKERS}
 use Rattle.boc_runs.specs.declared.rows.Row.{Row}
 use Rattle.boc_plans.specs.declared.sharing.Sharing.{Sharing}
 use Rattle.boc_plans.specs.Seen.{seen}
-use Rattle.boc_plans.specs.Edits.{IsSweep}
 use Rattle.boc_greedy.specs.declared.plan.Greedy.{Greedy}
 use Rattle.boc_greedy.specs.declared.points.CurvePoint.{CurvePoint}
 use Rattle.boc_greedy.specs.Curves.{IsCurve}
 use Rattle.boc_greedy.specs.Plans.{IsGreedyPlanOf}
 use Rattle.boc_cowns.specs.Hot.{IsHotCowns}
+use Rattle.boc_names.specs.declared.names.Names.{Names}
+use Rattle.boc_remedies.specs.Advice.{IsAdvised}
+use Rattle.boc_remedies.specs.Questions.{Asked}
+use Rattle.boc_advice_report.specs.declared.workers.ForWorkers.{ForWorkers}
 use Rattle.boc_pictures.specs.Subjects.{IsSubject}
 use Rattle.boc_commands.specs.declared.named_run.NamedRun.{NamedRun}
+use Rattle.boc_commands.specs.CownsAnswers.{AreJudged}
+use Rattle.boc_commands.specs.OrderAnswers.{IsOtherOrder}
+use Rattle.boc_commands.specs.WhyAnswers.{asked_of}
 use Rattle.boc_commands.specs.NamedRuns.{BeginsRecord, HasRun, HasTimes, IsNamedRun}
 use Rattle.boc_commands.specs.TimedNotes.{IsNoteFor, workers_compared}
-use Rattle.boc_view.specs.declared.material.Costs.{Costs}
+use Rattle.boc_view.specs.declared.found.Found.{Found}
+use Rattle.boc_view.specs.declared.wanted.TheConstants.{PAGE_WORKERS}
 use Rattle.boc_view.specs.declared.material.Material.{Material}
 use Rattle.boc_view.specs.declared.wanted.Picture.{Picture}
 use Rattle.boc_view.specs.declared.wanted.Picture.TheVariants.{Text, Plan, Curve, Page, Trace}
@@ -39,7 +46,7 @@ shows_curve Curve = true
 shows_curve Page = true
 shows_curve Trace = false
 
--- whether it shows what each row and each cown costs, and the program
+-- whether it shows why the rows take as long as they do, what would help, and the program
 abbrev pub shows_costs : Picture → Bool
 shows_costs (Text cowns curve) = false
 shows_costs Plan = false
@@ -47,14 +54,39 @@ shows_costs Curve = false
 shows_costs Page = true
 shows_costs Trace = false
 
+-- the workers that a page is for: as many as are asked for, and 4 where no number is given
+abbrev pub page_workers : Option ℕ → ℕ
+page_workers (Some workers) = workers
+page_workers None = PAGE_WORKERS
+
+-- the workers whose greedy plan a picture shows, if any, where a number is given or not
+abbrev pub workers_for : Picture → Option ℕ → Option ℕ
+workers_for (Text cowns curve) workers = if curve then None else workers
+workers_for Plan workers = workers
+workers_for Curve workers = None
+workers_for Page workers = Some (page_workers workers)
+workers_for Trace workers = workers
+
 -- the workers whose greedy plan is shown, if any
 abbrev pub workers_shown : Wanted → Option ℕ
-workers_shown wanted = if shows_workers wanted.picture then wanted.workers else None
+workers_shown wanted = workers_for wanted.picture wanted.workers
 
 -- the most workers of a curve: as many as are asked for, and 64 where no number is given
 abbrev pub most_of : Option ℕ → ℕ
 most_of (Some workers) = workers
 most_of None = MOST_WORKERS
+
+-- the same of a picture: a page has 64
+abbrev pub curve_most : Picture → Option ℕ → ℕ
+curve_most (Text cowns curve) workers = most_of workers
+curve_most Plan workers = most_of workers
+curve_most Curve workers = most_of workers
+curve_most Page workers = MOST_WORKERS
+curve_most Trace workers = most_of workers
+
+-- the most workers of the curve that is wanted
+abbrev pub curve_workers : Wanted → ℕ
+curve_workers wanted = curve_most wanted.picture wanted.workers
 
 -- ---- the parts
 
@@ -72,10 +104,18 @@ IsPlanFor rows sharing (Some workers) None = ⊥
 IsPlanFor rows sharing None (Some plan) = ⊥
 IsPlanFor rows sharing None None = Unit {0}
 
--- what each row costs, which is the span that it would leave if it took its least ticks; and what each of so many cowns costs
-pub record AreCosts (rows : List Row) (sharing : Sharing) (cowns : ℕ) (costs : Costs) : Type 0 where
-  pub spans : IsSweep (seen sharing rows) costs.spans.items
-  pub hot : IsHotCowns rows sharing cowns costs.hot
+-- the rows with their defs and families, as they are asked about for so many workers
+abbrev pub page_question : List Row → Names → Sharing → ℕ → Asked
+page_question rows names sharing workers = asked_of rows names sharing (Some workers)
+
+-- What a page says of rows with these names, for so many workers: why they take as long as they do and what would help, another order, what the cowns
+-- cost, and these in the order of the ends of the greedy plan without them.
+pub record IsFound (rows : List Row) (names : Names) (sharing : Sharing) (workers : ℕ) (found : Found) : Type 0 where
+  pub advised : IsAdvised (page_question rows names sharing workers) found.advised
+  pub order : IsOtherOrder (seen sharing rows) found.advised.why.profile.span found.order
+  pub hot : IsHotCowns rows sharing (length names.families.items) found.hot
+  pub for_workers : ForWorkers
+  pub judged : AreJudged (page_question rows names sharing workers) workers found.hot for_workers found.judged.items
 
 -- the bytes of a program's text, where it is wanted; none where it isn't, or where the input is the text of a record
 pub record IsProgramShown (is_wanted : Bool) (input shown : List ℕ) : Type 0 where
@@ -84,14 +124,14 @@ pub record IsProgramShown (is_wanted : Bool) (input shown : List ℕ) : Type 0 w
   pub none_there : BeginsRecord input → shown ≡ []
 
 -- The parts that are made of the rows of a run: what all pictures show of them, as plans see them; the greedy plan; when the rows
--- of a timed run ran; the points of the curve; and what rows and cowns cost.
+-- of a timed run ran; the points of the curve; and what a page says of them.
 pub record HasParts (wanted : Wanted) (run : NamedRun) (material : Material) : Type 0 where
   pub subject : IsSubject run.rows run.names wanted.sharing material.subject
   pub greedy : IsPlanFor run.rows wanted.sharing (workers_shown wanted) material.greedy
   pub times : material.times ≡ (if shows_workers wanted.picture then run.times else None)
-  pub points : IsPart (shows_curve wanted.picture) (λ (points : Vec CurvePoint Global). IsCurve (seen wanted.sharing run.rows) (most_of wanted.workers)
+  pub points : IsPart (shows_curve wanted.picture) (λ (points : Vec CurvePoint Global). IsCurve (seen wanted.sharing run.rows) (curve_workers wanted)
       points.items) material.points
-  pub costs : IsPart (shows_costs wanted.picture) (AreCosts run.rows wanted.sharing (length run.names.cowns.items)) material.costs
+  pub found : IsPart (shows_costs wanted.picture) (IsFound run.rows run.names wanted.sharing (page_workers wanted.workers)) material.found
 
 -- What the picture that is wanted is made of: the run that the input tells of, as the words say it is run, with the file beside it; what is made of its
 -- rows; the text of the program; and the note on the span of the timed run with which it is compared, if it is.

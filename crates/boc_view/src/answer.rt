@@ -5,13 +5,14 @@ ghost use Rattle.boc_commands.specs.Commands.{CountsSource};
 ghost use Rattle.boc_commands.specs.NamedRuns.{RefusesNamedRun};
 
 use crate::material::{Material, material_of};
+use crate::page::page_of;
 use crate::wanted::{Picture, Wanted};
 use boc_commands::Fault;
 use boc_commands::named_run::taken;
 use boc_front::Watch;
 use boc_pictures::{
-    Page, WorkerPlan, cowns_text, curve_drawing, curve_text, page_text, plan_drawing, plan_text,
-    trace_text, workers_text,
+    WorkerPlan, cowns_text, curve_drawing, curve_text, plan_drawing, plan_text, trace_text,
+    workers_text,
 };
 use boc_progress::Progress;
 use boc_text::Source;
@@ -22,7 +23,7 @@ use std::thread::Threads;
 /// A picture, and what is noted of the run that it shows.
 #[derive(Drop)]
 pub(crate) struct Shown {
-    pub text: String,
+    pub text: Vec<u8>,
     pub note: Vec<u8>,
 }
 
@@ -47,7 +48,7 @@ pub(crate) fn pictured<R: Threads + Wait + Sync, S: Source>(
 {
     let text = taken(alloc, source)?;
     let material = material_of(rt, alloc, wanted, beside, text, watch, progress)?;
-    let text = drawn(alloc, wanted.picture, &material, width)?;
+    let text = drawn(alloc, wanted, &material, width)?;
     let Material { note, .. } = material;
     Ok(Shown { text, note })
 }
@@ -55,18 +56,19 @@ pub(crate) fn pictured<R: Threads + Wait + Sync, S: Source>(
 // Returns the picture that is made of this.
 fn drawn(
     alloc: Global,
-    picture: Picture,
+    wanted: &Wanted,
     material: &Material,
     width: usize,
-) -> Result<String, AllocError> {
+) -> Result<Vec<u8>, AllocError> {
     let subject = &material.subject;
-    match picture {
-        Picture::Text { cowns, .. } => lines(alloc, material, cowns, width),
-        Picture::Plan => plan_drawing(alloc, subject, &on_workers(alloc, material)?),
-        Picture::Curve => curve_of(alloc, material),
-        Picture::Page => page_of(alloc, material),
-        Picture::Trace => trace_text(alloc, subject, &on_workers(alloc, material)?),
-    }
+    let text = match wanted.picture {
+        Picture::Text { cowns, .. } => lines(alloc, material, cowns, width)?,
+        Picture::Plan => plan_drawing(alloc, subject, &on_workers(alloc, material)?)?,
+        Picture::Curve => curve_of(alloc, material)?,
+        Picture::Page => return page_of(alloc, wanted, material),
+        Picture::Trace => trace_text(alloc, subject, &on_workers(alloc, material)?)?,
+    };
+    Ok(text.into_bytes())
 }
 
 // Returns the plans on workers that are shown: the greedy one, and then the schedule of a timed run.
@@ -113,22 +115,4 @@ fn lines(
         text.push_str(curve.as_str())?;
     }
     Ok(text)
-}
-
-// Returns the page.
-fn page_of(alloc: Global, material: &Material) -> Result<String, AllocError> {
-    let plan = plan_drawing(alloc, &material.subject, &on_workers(alloc, material)?)?;
-    let curve = curve_of(alloc, material)?;
-    let Some(costs) = &material.costs else {
-        return Ok(String::new(alloc));
-    };
-    let page = Page {
-        subject: &material.subject,
-        plan: plan.as_str(),
-        curve: curve.as_str(),
-        spans: &costs.spans,
-        cowns: &costs.hot.cowns,
-        program: &material.program,
-    };
-    page_text(alloc, &page)
 }

@@ -5,7 +5,9 @@ ghost use Rattle.std.specs.Prelude.{◌<◌};
 
 mod answer;
 mod explaining;
+mod found;
 mod material;
+mod page;
 mod wanted;
 mod words;
 
@@ -49,7 +51,7 @@ fn run(rt: HostRuntime, threads: &(impl Threads + Wait + Sync)) -> Result<(), St
     let words = words_given(&rt)?;
     let asked = read_words(rt.alloc(), &words).or_else(|fault| words_stop(rt, &words, fault))?;
     let wanted = match asked {
-        Asked::Told(text) => return put(rt, &text),
+        Asked::Told(text) => return put(rt, text.as_bytes()),
         Asked::Picture(wanted) => wanted,
     };
     match &wanted.input {
@@ -69,9 +71,9 @@ fn words_stop<T>(rt: HostRuntime, words: &[String], fault: Fault) -> Result<T, S
 }
 
 // Writes a text to standard output.
-fn put(rt: HostRuntime, text: &str) -> Result<(), Stop> {
+fn put(rt: HostRuntime, text: &[u8]) -> Result<(), Stop> {
     let mut output = Counted::new(rt.stdout());
-    match put_out(&mut output, text.as_bytes()) {
+    match put_out(&mut output, text) {
         Ok(()) => Ok(()),
         Err(stopped) => Err(Stop::from(Fault::from(stopped))),
     }

@@ -1,19 +1,20 @@
 // What the picture that is requested is made of.
 
-ghost use Rattle.std.specs.Prelude.{◌≡◌, ◌≤◌, true, IfOk, MatchResult};
-ghost use Rattle.boc_program.specs.declared.limits.TheConstants.{MOST_COWNS};
+ghost use Rattle.std.specs.Prelude.{◌≡◌, true, IfOk, MatchResult};
 ghost use Rattle.boc_plans.specs.Seen.{seen};
 ghost use Rattle.boc_greedy.specs.Curves.{IsCurve};
 ghost use Rattle.boc_commands.specs.NamedRuns.{AreFew, IsOfNamedRun, IsShort};
-ghost use Rattle.boc_view.specs.Materials.{AreCosts, HasParts, IsMaterial, IsPart, IsPlanFor, IsProgramShown, most_of, shows_costs, shows_curve};
+ghost use Rattle.boc_view.specs.Materials.{HasParts, IsFound, IsMaterial, IsPart, IsPlanFor, IsProgramShown};
+ghost use Rattle.boc_view.specs.Materials.{curve_workers, page_workers, shows_costs, shows_curve};
 
+use crate::found::{Found, found_of};
 use crate::wanted::{Picture, Wanted};
 use boc_busy::TimedRows;
 use boc_commands::named_run::{RECORD_WORD, named_run};
 use boc_commands::timed_note::{other_run, timed_note_on};
 use boc_commands::{Fault, NamedRun, Origin};
-use boc_cowns::{HotCowns, hot_cowns};
 use boc_greedy::{CurvePoint, Greedy, greedy};
+use boc_names::Names;
 use boc_pictures::Subject;
 use boc_plans::sharing::Sharing;
 use boc_program::count::Workers;
@@ -35,19 +36,12 @@ pub(crate) struct Material {
     pub times: Option<TimedRows>,
     /// When the greedy plans for 1, 2, 3 and more workers end.
     pub points: Option<Vec<CurvePoint>>,
-    pub costs: Option<Costs>,
+    /// What a page says of the run.
+    pub found: Option<Found>,
     /// The text of the program; no bytes where it isn't shown, or where the input is a record.
     pub program: Vec<u8>,
     /// The note that the timed run with which the run is compared has another span; no bytes where there is nothing to note.
     pub note: Vec<u8>,
-}
-
-/// What rows and cowns cost. All times are ticks.
-#[derive(Drop)]
-pub(crate) struct Costs {
-    /// For each row the span that it would leave if it took its least ticks.
-    pub spans: Vec<u64>,
-    pub hot: HotCowns,
 }
 
 /// Returns what the picture that is wanted is made of: the run that a text reports on, which is that of a program or of a record, with the bytes of the file
@@ -76,7 +70,7 @@ pub(crate) fn material_of<R: Threads + Wait + Sync, G: Gate>(
     };
     let run = named_run(rt, alloc, text, origin, gate, progress)?;
     let note = timed_note_on(alloc, &other, wanted.sharing, &run.rows, progress)?;
-    let material = parts_of(rt, alloc, wanted, run, program, note)?;
+    let material = parts_of(rt, alloc, wanted, run, program, note, progress)?;
     Ok(material)
 }
 
@@ -88,6 +82,7 @@ fn parts_of<R: Threads + Sync>(
     run: NamedRun,
     program: Vec<u8>,
     note: Vec<u8>,
+    progress: &mut dyn Progress,
 ) -> Result<Material, AllocError>
     requires { AreFew run.rows run.names }
     ensures parts { IfOk result (HasParts wanted.now run) }
@@ -97,7 +92,7 @@ fn parts_of<R: Threads + Sync>(
     let NamedRun { rows, names, times } = run;
     let greedy = plan_for(alloc, &rows, wanted.sharing, wanted.workers_shown())?;
     let points = points_for(rt, alloc, &rows, wanted)?;
-    let costs = costs_for(rt, alloc, &rows, names.cowns.len() as u32, wanted)?;
+    let found = found_for(rt, alloc, &rows, &names, wanted, progress)?;
     let times = if wanted.picture.shows_workers() {
         times
     } else {
@@ -109,7 +104,7 @@ fn parts_of<R: Threads + Sync>(
         greedy,
         times,
         points,
-        costs,
+        found,
         program,
         note,
     })
@@ -159,7 +154,7 @@ fn points_for<R: Threads + Sync>(
     wanted: &Wanted,
 ) -> Result<Option<Vec<CurvePoint>>, AllocError>
     ensures { IfOk result (IsPart (shows_curve wanted.now.picture)
-        (λ points. IsCurve (seen wanted.now.sharing rows.now) (most_of wanted.now.workers) points.items)) }
+        (λ points. IsCurve (seen wanted.now.sharing rows.now) (curve_workers wanted.now) points.items)) }
 {
     if !wanted.picture.shows_curve() {
         return Ok(None);
@@ -181,36 +176,22 @@ fn points_of<R: Threads + Sync>(
     WhatIf::new(alloc, rows, sharing)?.curve(rt, alloc, most)
 }
 
-// Returns what rows and this many cowns cost, where the picture shows it.
-fn costs_for<R: Threads + Sync>(
+// Returns what a page says of rows with these names, where the picture is one.
+fn found_for<R: Threads + Sync>(
     rt: &R,
     alloc: Global,
     rows: &Rows,
-    cowns: u32,
+    names: &Names,
     wanted: &Wanted,
-) -> Result<Option<Costs>, AllocError>
-    requires { cowns ≤ MOST_COWNS }
-    ensures { IfOk result (IsPart (shows_costs wanted.now.picture) (AreCosts rows.now wanted.now.sharing cowns)) }
+    progress: &mut dyn Progress,
+) -> Result<Option<Found>, AllocError>
+    requires { AreFew rows.now names.now }
+    ensures { IfOk result (IsPart (shows_costs wanted.now.picture) (IsFound rows.now names.now wanted.now.sharing (page_workers wanted.now.workers))) }
 {
     if !wanted.picture.shows_costs() {
         return Ok(None);
     }
-    let costs = costs_of(rt, alloc, rows, wanted.sharing, cowns)?;
-    Ok(Some(costs))
-}
-
-// Returns what rows and this many cowns cost.
-fn costs_of<R: Threads + Sync>(
-    rt: &R,
-    alloc: Global,
-    rows: &Rows,
-    sharing: Sharing,
-    cowns: u32,
-) -> Result<Costs, AllocError>
-    requires { cowns ≤ MOST_COWNS }
-    ensures { IfOk result (AreCosts rows.now sharing cowns) }
-{
-    let spans = WhatIf::new(alloc, rows, sharing)?.sweep(rt, alloc)?;
-    let hot = hot_cowns(rt, alloc, rows, sharing, cowns)?;
-    Ok(Costs { spans, hot })
+    let workers = wanted.page_workers();
+    let found = found_of(rt, alloc, rows, names, wanted.sharing, workers, progress)?;
+    Ok(Some(found))
 }

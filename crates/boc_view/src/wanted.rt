@@ -1,13 +1,16 @@
 // What is requested.
 
 ghost use Rattle.std.specs.Prelude.{◌≡◌};
-ghost use Rattle.boc_view.specs.Materials.{most_of, shows_costs, shows_curve, shows_workers, workers_shown};
+ghost use Rattle.boc_view.specs.Materials.{curve_workers, page_workers, shows_costs, shows_curve, shows_workers, workers_shown};
 
 use boc_commands::{RunFile, Schedule};
 use boc_front::Given;
 use boc_plans::sharing::Sharing;
 use boc_program::count::Workers;
 use boc_program::limits::MOST_WORKERS;
+
+// For how many workers a page is, where no number is given.
+const PAGE_WORKERS: u32 = 4;
 
 /// A picture.
 #[derive(Clone, Copy, PartialEq, Eq, Debug)]
@@ -86,24 +89,34 @@ pub(crate) struct Wanted {
 }
 
 impl Wanted {
-    /// Returns the workers whose greedy plan is shown, if any.
+    /// Returns the workers whose greedy plan is shown, if any: those that are asked for, and for a page 4 where no number is given.
     pub(crate) fn workers_shown(&self) -> Option<Workers>
         ensures { result ≡ workers_shown self.now }
     {
-        if self.picture.shows_workers() {
-            self.workers
-        } else {
-            None
+        match self.picture {
+            Picture::Page => Some(self.page_workers()),
+            picture if picture.shows_workers() => self.workers,
+            _ => None,
         }
     }
 
-    /// Returns the most workers of a curve: as many as are asked for, and 64 where no number is given.
-    pub(crate) fn most(&self) -> Workers
-        ensures { result ≡ most_of self.now.workers }
+    /// Returns the workers that a page is for: as many as are asked for, and 4 where no number is given.
+    pub(crate) fn page_workers(&self) -> Workers
+        ensures { result ≡ page_workers self.now.workers }
     {
         match self.workers {
             Some(workers) => workers,
-            None => Workers::new(MOST_WORKERS).unwrap(),
+            None => Workers::new(PAGE_WORKERS).unwrap(),
+        }
+    }
+
+    /// Returns the most workers of a curve: as many as are asked for, and 64 for a page, or where no number is given.
+    pub(crate) fn most(&self) -> Workers
+        ensures { result ≡ curve_workers self.now }
+    {
+        match (self.picture, self.workers) {
+            (Picture::Page, _) | (_, None) => Workers::new(MOST_WORKERS).unwrap(),
+            (_, Some(workers)) => workers,
         }
     }
 }

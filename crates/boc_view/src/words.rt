@@ -31,8 +31,9 @@ ticks add up to the span.
          --curve, prints what these show instead; with --curve not what --p
          does. --curve shows the ends of greedy plans for 1, 2, 4 .. workers,
          up to P.
-  page   Has the plan, the curve, the chain, what each behaviour and each cown
-         costs, and the program.
+  page   Says what holds the run back with P workers, 4 if --p is missing, and
+         what would help, as boc why and boc cowns do. Shows the plans, to zoom
+         into, search and edit, with tables, the curve and the program.
 With --timed, text, plan, page and trace add which worker runs what, and when;
 `text --curve` doesn't. If --p shows a plan, without -w above 1, --seed, --timed
 and --record, a note on standard error says if the timed run on P workers, at

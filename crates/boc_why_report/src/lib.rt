@@ -13,3 +13,4 @@ pub use chain::number;
 pub use lists::{Shares, put_shares};
 pub use short::{Outcome, short_text};
 pub use told::{TimedEnd, put_chain, put_head, put_least, workers_word};
+pub use words::link_text;

@@ -46,8 +46,8 @@ pub(crate) fn put_handed(
     }
 }
 
-/// Returns what a link is called.
-pub(crate) fn link_text(alloc: Global, names: &Names, link: &Link) -> Result<Vec<u8>, AllocError>
+/// Returns what a link is called. `AllocError` says that memory was refused.
+pub fn link_text(alloc: Global, names: &Names, link: &Link) -> Result<Vec<u8>, AllocError>
     ensures { IfOk result (λ text. text.items ≡ link_text names.now link.now) }
 {
     let mut text = Vec::new(alloc);

@@ -1,0 +1,6 @@
+use Rattle.std.proofs.Common.{◌≡◌, map, take}
+use Rattle.boc_page.proofs.rows.parents.Given as goal
+
+-- what is there so far
+abbrev pub invariant-loop-row : goal.invariant-loop-row
+invariant-loop-row l = l.column.items ≡ map (λ r. r.parent) (take l.row-index l.rows)

@@ -1,0 +1,5 @@
+pub mod Json
+pub mod Columns
+pub mod Advice
+pub mod Blocks
+pub mod Listed

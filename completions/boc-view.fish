@@ -33,6 +33,7 @@ complete -c boc-view -n '__boc_view_is; or __boc_view_is help' -a help -d 'Print
 complete -c boc-view -n '__boc_view_is text plan curve page trace' -F
 
 complete -c boc-view -n '__boc_view_is text' -l cowns -d 'Show instead which behaviours hold which cown'
+complete -c boc-view -n '__boc_view_is plan' -l cowns -d 'Also draw which rows hold each cown, and how many wait'
 complete -c boc-view -n '__boc_view_is text' -l curve -d 'Show instead when plans for 1, 2, 4 .. workers end'
 complete -c boc-view -n '__boc_view_is text' -l width -x -d 'Use 40 to 1000 columns [default: the terminal'"'"'s or 100]'
 complete -c boc-view -n '__boc_view_is text plan curve page trace' -s w -l workers -x -d 'Run the program on N threads, 1 to 16 [default: 1]'

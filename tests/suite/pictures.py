@@ -57,8 +57,8 @@ rows 4   work 11   span 9
   3 add(1; b)     |    ...##|
 """
 
-# How wide a letter is of the names beside bars, and of what stands at links.
-NAME_LETTER, LINK_LETTER = 7.3, 6.7
+# How wide a letter is: in a bar and at a link, of a label, and of a label, a title and a heading where the drawing is shown narrow.
+IN_BAR, LETTER, NARROW_LETTER, TITLE_LETTER, HEADING_LETTER = 7.3, 7.83, 12.05, 14.45, 12.65
 
 NAMES = b"""= 0 <start> & "go"
 = 1 a\\b 1
@@ -106,6 +106,11 @@ def cases(program):
     yield from widths(view)
     yield from options(program, view)
     yield from drawings(program, view, pictures)
+    yield from folds(view, pictures)
+    yield from many_rows(view)
+    yield from titles(view)
+    yield from hostile_names(view, pictures)
+    yield from sizes(view)
     yield from traces(view)
     yield from names_that_mean_something(view, pictures)
     yield from read_by_xmllint(program, view, pictures)
@@ -271,16 +276,8 @@ def fault_of_told_curve(text, report):
 
 
 def fault_of_drawn_plans(svg, report):
-    svg = svg.encode()
-    if sorted(bar[:3] for bar in bars_of(svg)) != report.plan:
-        return "its bars are not those of the plan"
-    text = svg.decode()
-    if f"{len(report.plan)} rows, work {report.work}, span {report.span}<" not in text or f"for 3 workers: end {report.end}, bound {report.bound}<" not in text:
-        return "its headings are others"
-    shares = re.findall(r"M[\d.]+ ([\d.]+)h[^>]*><title>row (\d+) .*?: ticks (\d+) to (\d+)<", text)
-    tops = {float(y): worker for y, worker in re.findall(r'y="([\d.]+)">worker (\d+)<', text)}
-    found = sorted((int(row), int(start), int(end), int(tops[float(y) + 12])) for y, row, start, end in shares)
-    return None if found == report.greedy else f"its greedy plan is {found}"
+    return (fault_of_drawing(svg, report.rows, starts=[start for _, start, _ in report.plan])
+            or fault_of_workers_drawn(svg, "The greedy plan", report.greedy, 3, report.end, report.bound))
 
 
 def fault_of_drawn_curve(svg, report):
@@ -381,47 +378,359 @@ def fault_of_curve(output, rows):
     return None if lines[-1] == last else f"the last line is {lines[-1]!r}"
 
 
-TITLE = re.compile(r"row (\d+)\b.*: (\d+) to (\d+)")
+# How wide a drawing of plans is, where its axis begins and how long that is, in hundredths of a pixel.
+WIDE, AXIS_FROM, AXIS = 1_000_00, 216_00, 714_00
+
+# How high bars of rows and of workers are, and those of a cown, all rows of folded lanes, and what waits for a cown.
+BAR, HOLDERS, ROWS_HIGH, QUEUE = 20, 19, 700_00, 13_00
+
+# The fewest hundredths that a row is apart in a folded lane.
+FEWEST_HIGH = 50
+
+SPACE = "{http://www.w3.org/2000/svg}"
+AREA = re.compile(r"M([\d.]+) ([\d.]+)h([\d.]+)v([\d.]+)h-[\d.]+z")
+TITLE = re.compile(r"row (\d+)\b.*?: (\d+) to (\d+)(?:;|$)", re.DOTALL)
+RUN_TITLE = re.compile(r"([\d,]+) rows of (.*): (\d+) to (\d+)$", re.DOTALL)
+FOLD_TITLE = re.compile(r"(.*): ([\d,]+) rows?, ([\d,]+) ticks?, at most (\d+) at once; the chain goes through ([\d,]+) ticks?$", re.DOTALL)
 
 
-def bars_of(svg):
-    """Of each bar of a drawing the row, its times as a mouse shows them, where it begins, how long it is, and its upper edge."""
-    space = "{http://www.w3.org/2000/svg}"
+class Drawing:
+    """A drawing of plans, read back: its heading, and each part with the elements in it."""
+
+    def __init__(self, svg):
+        self.root = tree_of.fromstring(svg)
+        self.style = self.root.find(f"{SPACE}style").text
+        self.title = next(it.text for it in self.root.iter(f"{SPACE}text") if it.get("class") == "t")
+        self.parts = []
+        for element in self.root:
+            if element.tag == f"{SPACE}text" and element.get("class") == "h":
+                self.parts.append((element.text, []))
+            elif self.parts:
+                self.parts[-1][1].append(element)
+
+    def part(self, begin):
+        """The elements of the part whose heading begins so."""
+        return next((elements for heading, elements in self.parts if heading.startswith(begin)), [])
+
+    def heading(self, begin):
+        return next((heading for heading, _ in self.parts if heading.startswith(begin)), "")
+
+
+@dataclasses.dataclass
+class DrawnBar:
+    """A bar: its row, or None where it is of several; how many rows it is of; its ticks, its place and size in pixels, its colour, and the text in it."""
+
+    row: int
+    rows: int
+    start: int
+    end: int
+    area: tuple
+    colour: str
+    word: object
+
+
+def class_of(element):
+    return element.get("class") or ""
+
+
+def title_of(element):
+    title = element.find(f"{SPACE}title")
+    return "" if title is None else title.text or ""
+
+
+def drawn_bars(elements):
+    """The bars of a part."""
     bars = []
-    for path in tree_of.fromstring(svg).iter(f"{space}path"):
-        title = path.find(f"{space}title")
-        if title is not None and TITLE.match(title.text) and " workers" not in title.text and not path.get("class"):
-            begin, top, width = re.match(r"M([\d.]+) ([\d.]+)h([\d.]+)v", path.get("d")).groups()
-            row, start, end = TITLE.match(title.text).groups()
-            bars.append((int(row), int(start), int(end), float(begin), float(width), float(top)))
+    for group in elements:
+        title = title_of(group)
+        of_row, of_rows = TITLE.match(title), RUN_TITLE.match(title)
+        path = group.find(f"{SPACE}path")
+        if group.tag != f"{SPACE}g" or path is None or not (of_row or of_rows):
+            continue
+        row, rows = (int(of_row[1]), 1) if of_row else (None, int(of_rows[1].replace(",", "")))
+        start, end = (int(of_row[2]), int(of_row[3])) if of_row else (int(of_rows[3]), int(of_rows[4]))
+        area = tuple(map(float, AREA.match(path.get("d")).groups()))
+        bars.append(DrawnBar(row, rows, start, end, area, class_of(path), group.find(f"{SPACE}text")))
     return bars
 
 
-def fault_of_drawing(svg, rows):
-    """There is a bar for each row, in the place of its ticks, and no two in one lane overlap."""
+def areas_of(elements, class_):
+    """The rectangles of the paths of a class."""
+    return [tuple(map(float, it)) for path in elements if class_of(path) == class_ for it in AREA.findall(path.get("d") or "")]
+
+
+def labels_of(elements):
+    """The labels of lanes as they are in a wide drawing, each with its height, as far as the legend."""
+    found = []
+    for it in elements:
+        if it.tag == f"{SPACE}text" and class_of(it) in ("n", "n wide") and it.get("x") == "10":
+            found.append((float(it.get("y")), it.text))
+    return found
+
+
+def x_of(tick, end):
+    """Where a tick is."""
+    return (AXIS_FROM + tick * AXIS // end) / 100
+
+
+def is_near(one, other, by=0.011):
+    return abs(one - other) <= by
+
+
+def fault_of_area(bar, end, height):
+    """A bar is exactly as long as its ticks, and begins where they do."""
+    x, _, width, high = bar.area
+    if not is_near(x, x_of(bar.start, end)) or not is_near(x + width, x_of(bar.end, end), 0.021) or not is_near(high, height):
+        return f"row {bar.row} from {bar.start} to {bar.end} begins at {x}, and is {width} long and {high} high"
+    return None
+
+
+def steps_of(stretches):
+    """From which tick on how many of these run."""
+    changes = collections.Counter()
+    for start, end in stretches:
+        changes[start] += 1
+        changes[end] -= 1
+    steps, count = [], 0
+    for tick in sorted(changes):
+        count += changes[tick]
+        if not steps or steps[-1][1] != count:
+            steps.append((tick, count))
+    return steps
+
+
+def fault_of_steps(path, stretches, end, high):
+    """A path is as high as many of these run, at each tick."""
+    begin = re.match(r"M([\d.]+) ([\d.]+)", path.get("d"))
+    foot = float(begin[2])
+    found = [(float(x), foot - float(y)) for x, y in re.findall(r"H([\d.]+)V([\d.]+)", path.get("d"))]
+    wanted = [(x_of(tick, end), high(count) / 100) for tick, count in steps_of(stretches)]
+    if len(found) != len(wanted) or any(not is_near(a, c) or not is_near(b, d) for (a, b), (c, d) in zip(found, wanted)):
+        return f"its steps are {found[:6]} in place of {wanted[:6]}"
+    return None
+
+
+def ranked(rows, defs):
+    """The defs by rank: that of the first row, and then those with the most work."""
+    work = collections.Counter()
+    for row, own in zip(rows, defs):
+        work[own] += row.ticks
+    return sorted(work, key=lambda own: (own != defs[0], -work[own], own))
+
+
+def fault_of_drawing(svg, rows, defs=None, names=None, starts=None):
+    """The earliest plan is drawn: a bar for each row of up to 60, or else how many rows of each def run, and below them the chain."""
+    drawing = Drawing(svg)
+    defs = defs or [0] * len(rows)
+    starts = starts or model.earliest_starts(rows)
+    ends = model.ends_of(rows, starts)
+    end = last_of(drawing, max(ends))
+    elements = drawing.part("The earliest plan: ")
+    if drawing.heading("The earliest plan: ") != f"The earliest plan: {rows_word(len(rows))}, work {sum(row.ticks for row in rows)}, span {max(ends)}":
+        return f"its heading is {drawing.heading('The earliest plan: ')!r}"
+    strips = sum(area[2] for area in areas_of(elements, "chain"))
+    if abs(strips - max(ends) * AXIS / end / 100) > 14.1 + 0.02 * len(rows):
+        return f"the chain is {strips} long"
+    if len(rows) > 60:
+        return fault_of_folds(elements, rows, defs, names, list(zip(starts, ends)), end)
+    bars = drawn_bars(elements)
+    if [(bar.row, bar.start, bar.end) for bar in bars] != list(zip(range(len(rows)), starts, ends)):
+        return "its bars are not the rows of the plan"
+    if len({bar.area[1] for bar in bars}) != len(rows):
+        return "two rows share a lane"
+    return next(filter(None, (fault_of_area(bar, end, BAR) for bar in bars)), None)
+
+
+def rows_word(count):
+    return "1 row" if count == 1 else f"{count} rows"
+
+
+def last_of(drawing, span):
+    """The last tick of all plans of a drawing: so far its axis goes."""
+    return max([span] + [int(re.search(r": end (\d+), bound", heading)[1]) for heading, _ in drawing.parts if ": end " in heading])
+
+
+def fault_of_folds(elements, rows, defs, names, runs, end):
+    """Each lane is as high as many rows of its def run; the sixtieth is of all further ones."""
+    ranks = ranked(rows, defs)
+    place = {own: min(rank, 59) for rank, own in enumerate(ranks)}
+    lanes = [[run for run, own in zip(runs, defs) if place[own] == lane] for lane in range(min(len(ranks), 60))]
+    found = [path for path in elements if FOLD_TITLE.match(title_of(path))]
+    if len(found) != len(lanes):
+        return f"{len(found)} lanes in place of {len(lanes)}"
+    most = [max(count for _, count in steps_of(lane)) for lane in lanes]
+    labels = [label for _, label in labels_of(elements) if label.startswith("▸ ")]
+    for lane, (path, own) in enumerate(zip(found, lanes)):
+        title = FOLD_TITLE.match(title_of(path))
+        numbers = [int(it.replace(",", "")) for it in title.groups()[1:4]]
+        if numbers != [len(own), sum(end_ - start for start, end_ in own), most[lane]]:
+            return f"lane {lane} is of {numbers}"
+        if not labels[lane].endswith(f", {len(own)}") or names and lane < 59 and not labels[lane].startswith(f"▸ {names[ranks[lane]][:12]}"):
+            return f"lane {lane} is called {labels[lane]!r}"
+        fault = fault_of_steps(path, own, end, lambda count: count * ROWS_HIGH // max(sum(most), FEWEST_HIGH))
+        if fault:
+            return f"lane {lane}: {fault}"
+    return None
+
+
+def fault_of_lanes(bars):
+    """No two bars of a part lie over each other."""
+    bars = sorted(bars, key=lambda bar: (bar.area[1], bar.area[0]))
+    for one, other in zip(bars, bars[1:]):
+        if one.area[1] == other.area[1] and one.area[0] + one.area[2] > other.area[0] + 0.011:
+            return f"rows {one.row} and {other.row} overlap"
+    return None
+
+
+def fault_of_workers_drawn(svg, begin, plan, workers, end, bound):
+    """A plan on workers is drawn: of each row its start, end and worker, where it isn't one of several narrow ones of a def."""
+    drawing = Drawing(svg)
+    elements, bars = drawing.part(begin), drawn_bars(drawing.part(begin))
+    word = "worker" if workers == 1 else "workers"
+    if not drawing.heading(begin).endswith(f" {workers} {word}: end {end}, bound {bound}"):
+        return f"its heading is {drawing.heading(begin)!r}"
+    tops = {round(y - 14.5, 2): int(label.split()[1]) for y, label in labels_of(elements) if label.startswith("worker ")}
+    if sorted(tops.values()) != list(range(workers)):
+        return f"its lanes are {tops}"
+    last = last_of(drawing, 0)
+    rest = set(plan)
+    for bar in bars:
+        worker = tops.get(bar.area[1])
+        if bar.row is not None and (bar.row, bar.start, bar.end, worker) not in rest:
+            return f"row {bar.row} runs from {bar.start} to {bar.end} on {worker}"
+        own = {it for it in rest if it[3] == worker and bar.start <= it[1] and it[2] <= bar.end and (bar.row is None or it[0] == bar.row)}
+        if len(own) != bar.rows or sum(it[2] - it[1] for it in own) != bar.end - bar.start:
+            return f"a bar from {bar.start} to {bar.end} on {worker} is of {len(own)} rows"
+        rest -= own
+        fault = fault_of_area(bar, max(last, int(re.search(r"span (\d+)", drawing.heading("The earliest plan: "))[1])), BAR)
+        if fault:
+            return fault
+    if any(it[2] > it[1] and (it[2] - it[1]) * AXIS // last > 1 for it in rest):
+        return f"{len(rest)} rows are missing"
+    return fault_of_lanes(bars)
+
+
+def cut(text, most):
+    """A text, of which at most so many letters are there."""
+    return text if len(text) <= most else text[:most - 1] + "…"
+
+
+def waits_over(rows):
+    """For each cown when rows wait for it: those that start at the end of the least row that shares a cown with them and ends then."""
     starts = model.earliest_starts(rows)
     ends = model.ends_of(rows, starts)
-    bars = bars_of(svg)
-    if sorted((bar[0], bar[1], bar[2]) for bar in bars) != sorted(zip(range(len(rows)), starts, ends)):
-        return "its bars are not the rows of the plan"
-    left = min(bar[3] for bar in bars)
-    scale = (1170 - left) / max(ends)
-    for _, start, end, begin, width, _ in bars:
-        if abs(begin - left - start * scale) > 0.11 or abs(width - max(0.5, (end - start) * scale)) > 0.11:
-            return f"a bar from {start} to {end} begins at {begin} and is {width} long"
-    lanes = collections.defaultdict(list)
-    for bar in bars:
-        lanes[bar[5]].append((bar[1], bar[2]))
-    if any(one[1] > other[0] for lane in lanes.values() for one, other in zip(sorted(lane), sorted(lane)[1:])):
-        return "two bars in one lane overlap"
-    if len(rows) > 60:
-        changes = sorted([(start, 1) for start in starts] + [(end, -1) for end in ends])
-        running = most = 0
-        for _, change in changes:
-            running += change
-            most = max(most, running)
-        if len(lanes) != most:
-            return f"{len(lanes)} lanes in place of {most}"
+    waits = collections.defaultdict(list)
+    for number, row in enumerate(rows):
+        spawned = starts[row.parent] + row.offset if number else 0
+        if spawned < starts[number]:
+            after = next(it for it in range(number) if ends[it] == starts[number] and set(rows[it].cowns) & set(row.cowns))
+            for cown in set(rows[after].cowns) & set(row.cowns):
+                waits[cown].append((spawned, starts[number]))
+    return waits
+
+
+def fault_of_cowns_drawn(svg, rows, cowns):
+    """Each cown has a lane, that which is held longest first: which row holds it when, and how many wait for it."""
+    drawing = Drawing(svg)
+    elements = drawing.part("The cowns: ")
+    starts = model.earliest_starts(rows)
+    ends = model.ends_of(rows, starts)
+    end, waits = last_of(drawing, max(ends)), waits_over(rows)
+    held = {cown: sum(row.ticks for row in rows if cown in row.cowns) for cown in range(len(cowns))}
+    order = sorted((cown for cown in held if held[cown]), key=lambda cown: (-held[cown], cown))[:60]
+    labels = [(y, label) for y, label in labels_of(elements)][:len(order)]
+    if [label for _, label in labels] != [cut(cowns[cown], 25) for cown in order]:
+        return f"its lanes are {labels}"
+    bars = drawn_bars(elements)
+    queues = {title_of(it).split(": ")[0]: it for it in elements if class_of(it) == "queue" and title_of(it)}
+    for cown, (y, _) in zip(order, labels):
+        name = cowns[cown]
+        own = [bar for bar in bars if is_near(bar.area[1], y - 13.2)]
+        wanted = sorted((starts[number], ends[number], number) for number, row in enumerate(rows) if cown in row.cowns)
+        if sum(bar.rows for bar in own) != len(wanted) or sum(bar.end - bar.start for bar in own) != held[cown]:
+            return f"{name}: {sum(bar.rows for bar in own)} rows hold it in place of {len(wanted)}"
+        if any(bar.row is not None and (bar.start, bar.end, bar.row) not in wanted for bar in own):
+            return f"{name}: a row holds it at another time"
+        fault = next(filter(None, (fault_of_area(bar, end, HOLDERS) for bar in own)), None) or fault_of_lanes(own)
+        if fault:
+            return f"{name}: {fault}"
+        if (name in queues) != bool(waits[cown]):
+            return f"{name}: {len(waits[cown])} rows wait for it"
+        if waits[cown]:
+            most = max(count for _, count in steps_of(waits[cown]))
+            if title_of(queues[name]) != f"{name}: up to {most} {'waits' if most == 1 else 'wait'}":
+                return f"{name}: {title_of(queues[name])}"
+            fault = fault_of_steps(queues[name], waits[cown], end, lambda count: count * QUEUE // most)
+            if fault:
+                return f"{name}: {fault}"
+    return None
+
+
+def fault_of_texts(svg):
+    """No name reaches out of its bar, no label into the lanes, and no text out of the drawing."""
+    drawing = Drawing(svg)
+    for group in drawing.root.iter(f"{SPACE}g"):
+        path, word = group.find(f"{SPACE}path"), group.find(f"{SPACE}text")
+        if path is not None and word is not None and class_of(word).startswith("b "):
+            x, _, width, _ = map(float, AREA.match(path.get("d")).groups())
+            if float(word.get("x")) + len(word.text) * IN_BAR > x + width:
+                return f"{word.text!r} reaches out of its bar"
+    for word in drawing.root.iter(f"{SPACE}text"):
+        class_, x = class_of(word), float(word.get("x"))
+        letters = {"n": NARROW_LETTER, "n narrow": NARROW_LETTER, "n wide": LETTER, "t": TITLE_LETTER, "h": HEADING_LETTER}.get(class_)
+        room = 216 if x == 10 and class_ in ("n", "n wide", "n narrow") else 1000
+        if letters and x < 100 and x + len(word.text or "") * letters > room + 0.1:
+            return f"{word.text!r} is {len(word.text) * letters} long"
+    for _, elements in drawing.parts:
+        for group in elements:
+            for word in group.findall(f"{SPACE}text") if class_of(group) == "links" else []:
+                long = len(word.text) * IN_BAR
+                begin = float(word.get("x")) - (long if "e" in class_of(word).split() else 0)
+                if begin < 216 or begin + long > 1000:
+                    return f"{word.text!r} goes from {begin} on"
+    return None
+
+
+def contrast(one, other):
+    """The contrast of two colours such as #4c78a8."""
+    light = []
+    for colour in (one, other):
+        parts = [int(colour[at:at + 2], 16) / 255 for at in (1, 3, 5)]
+        parts = [part / 12.92 if part <= 0.03928 else ((part + 0.055) / 1.055) ** 2.4 for part in parts]
+        light.append(0.2126 * parts[0] + 0.7152 * parts[1] + 0.0722 * parts[2] + 0.05)
+    return max(light) / min(light)
+
+
+def fault_of_colours(svg):
+    """A def's colour has a contrast of 3 to 1 with both papers, and the words on it of 4.5 to 1; so have all other words with the paper."""
+    style = Drawing(svg).style
+    colours = dict(re.findall(r"\.(c\d+)\{fill:(#\w{6})\}", style))
+    if len(colours) != 27:
+        return f"{len(colours)} colours"
+    for name, colour in colours.items():
+        ink = "#ffffff" if name == "c1" else "#000000"
+        if min(contrast(colour, "#ffffff"), contrast(colour, "#14171a")) < 3 or contrast(colour, ink) < 4.5:
+            return f"{name} is {colour}"
+    light, dark = style.split("@media screen")
+    for part, paper in ((light, "#ffffff"), (dark, "#14171a")):
+        for colour in re.findall(r"(?:^|\n)(?:text|\.s[^{]*|\.r|\.links text)\{[^}]*?fill:(#\w{6})", part):
+            if contrast(colour, paper) < 4.5:
+                return f"words in {colour} on {paper}"
+    return None
+
+
+def fault_of_def_colours(svg, rows, defs, is_program):
+    """The bars of a def have one colour, by its rank: main of a program has none of the hues, and the greyer ones come again."""
+    ranks = ranked(rows, defs)
+    ranks = ranks[1:] if is_program else ranks
+    wanted = {own: f"c{rank + 1 if rank < 26 else (rank - 10) % 16 + 11}" for rank, own in enumerate(ranks)}
+    drawing = Drawing(svg)
+    for _, elements in drawing.parts:
+        for bar in drawn_bars(elements):
+            if bar.row is not None and bar.colour != wanted.get(defs[bar.row], "c0"):
+                return f"row {bar.row} is {bar.colour}"
+            if bar.word is not None and class_of(bar.word) != ("b w" if bar.colour == "c1" else "b k"):
+                return f"the name of row {bar.row} is {class_of(bar.word)}"
     return None
 
 
@@ -436,7 +745,7 @@ def drawings(program, view, pictures):
     examples = [(name, text) for name, text in examples if program.run(["run"], text).status == 0]
     for (name, text), drawn in zip(examples, drawn_of(view, [text for _, text in examples], "4")):
         yield f"plan: {name}", fault_of_xml(drawn[0])
-        yield f"plan: {name}: its texts are apart", next(filter(None, map(fault_of_texts, drawn[:2])), None)
+        yield f"plan: {name}: its texts are in their places", next(filter(None, map(fault_of_texts, drawn[:2])), None)
         yield from pictures_of(name, drawn, rows_of(program.run(["run"], text).output)[0], pictures)
     for path, command in (("docs/transfer.svg", ["plan", "transfer.boc"]), ("docs/pipeline.html", ["page", "pipeline.boc"])):
         with open(os.path.join(TOP, path), "rb") as file:
@@ -460,20 +769,6 @@ def pictures_of(name, drawn, rows, pictures):
     pictures.keep_drawing(f"plan: {name} for workers", plan_for_workers)
     pictures.keep_drawing(f"curve: {name}", curve)
     pictures.keep_page(f"page: {name}", page)
-
-
-def fault_of_texts(svg):
-    """No text at a link reaches into the name of a row or out of the drawing, and none in the legend into what is next to it."""
-    text = svg.decode()
-    names = {y: 10 + len(html.unescape(words_)) * NAME_LETTER for y, words_ in re.findall(r'<text class="name" x="10" y="([\d.]+)">(.*?)</text>', text)}
-    for is_end, x, y, words_ in re.findall(r'<text (text-anchor="end" )?x="([\d.]+)" y="([\d.]+)">(.*?)</text>', text):
-        length = len(html.unescape(words_)) * LINK_LETTER
-        begin = float(x) - length if is_end else float(x)
-        if y in names and (begin < names[y] - 1 or begin + length > 1201):
-            return f"{words_!r} goes from {begin} on, and is {length} long"
-    legend = re.findall(r'<text class="small" x="([\d.]+)" y="[\d.]+">(.*?)</text>', text)
-    legend = [(float(x), len(html.unescape(words_)) * LINK_LETTER) for x, words_ in legend]
-    return "texts of the legend meet" if any(x + length > other - 8 for (x, length), (other, _) in zip(legend, legend[1:])) else None
 
 
 def fault_of_xml(text):
@@ -557,6 +852,125 @@ def fault_of_page(text, rows):
     return f"its {wrong[0]} is another one" if wrong else None
 
 
+# How many rows drawings are made of in which defs have names, and of how many defs and cowns.
+FOLDED = [(4, 2, 1), (40, 5, 3), (60, 7, 4), (61, 5, 4), (150, 12, 9), (400, 75, 20)]
+
+
+def a_shop(count, defs, cowns, seed):
+    """Rows by chance, the number of the def of each, the names of these, and the file of all names."""
+    chance = random.Random(seed)
+    rows = fan(count, lambda _: sorted(chance.sample(range(cowns), chance.randrange(1, min(cowns, 3) + 1))), lambda _: chance.randrange(1, 30), 3 * count)
+    own = [0] + [chance.randrange(1, defs) for _ in range(1, count)]
+    first = {it: place for place, it in enumerate(dict.fromkeys(own))}
+    own = [first[it] for it in own]
+    names = ["main"] + [f"def{number}{'_of_the_shop' * (number % 3)}" for number in range(1, defs)]
+    lines = [f"= {row} {names[it]}" + (f" {chance.randrange(99)} stock" if row else "") for row, it in enumerate(own)]
+    called = [f"cown{cown}{'_that_is_held_by_many' * (cown % 2)}" for cown in range(cowns)]
+    lines += [f"@ {cown} {name}" for cown, name in enumerate(called)]
+    return rows, own, names, called, "".join(f"{line}\n" for line in lines).encode()
+
+
+def folds(view, pictures):
+    """Rows have lanes up to 60 of them, and defs beyond; bars have names and the colours of their defs; and cowns have lanes with their queues."""
+    for number, (count, defs, cowns) in enumerate(FOLDED):
+        rows, own, names, called, file = a_shop(count, defs, cowns, number)
+        record = fan_text(cowns, rows)
+        plan, more = (view.run_beside(["plan", *words_], "--names", file, record) for words_ in ([], ["-p", "3", "--cowns"]))
+        again = view.run_beside(["plan", "-p", "3", "--cowns"], "--names", file, record)
+        lines = [line.split() for line in model.greedy_lines(rows, 3)]
+        greedy = [tuple(map(int, line)) for line in lines[1:-1]]
+        for name, fault in (("rows", fault_of_drawing(plan.output, rows, own, names)), ("rows with more", fault_of_drawing(more.output, rows, own, names)),
+                            ("workers", fault_of_workers_drawn(more.output, "The greedy plan", greedy, 3, int(lines[-1][1]), int(lines[-1][3]))),
+                            ("cowns", fault_of_cowns_drawn(more.output, rows, called)), ("texts", fault_of_texts(more.output)),
+                            ("contrast", fault_of_colours(plan.output)), ("colours", fault_of_def_colours(more.output, rows, own, False)),
+                            ("the same each time", None if again == more else "it is another one")):
+            yield f"plan: {count} named rows: {name}", fault
+        pictures.keep_drawing(f"plan: {count} named rows", more.output)
+        shared = view.run_beside(["plan", "--cowns", "--shared-reads"], "--names", file, record).output
+        bars = drawn_bars(Drawing(shared).part("The cowns: "))
+        held = sum(len(row.cowns) for row in rows)
+        yield f"plan: {count} named rows: shared reads", fault_of_lanes(bars) or (None if sum(bar.rows for bar in bars) == held else "a holder is missing")
+
+
+def many_rows(view):
+    """Above 200 rows a note says what is for so many; the drawing is there nevertheless."""
+    for count in (199, 200, 201, 4_000):
+        record = fan_text(1, fan(count, lambda _: (0,)))
+        note = f"boc: note: {count} rows are many for a drawing: see boc-view page\n".encode() if count > 200 else b""
+        for words_, noted in ((["plan"], note), (["plan", "--cowns"], note), (["text"], b""), (["curve"], b""), (["page"], b""), (["trace"], b"")):
+            answer = view.run(words_, record)
+            fault = fault_of(done(answer.output, noted), answer) or (None if answer.output else "nothing is drawn")
+            yield f"{words_}: the note on {count} rows", fault
+
+
+def titles(view):
+    """A drawing is called by its file, and by how the program was run; its size is that of what shows it."""
+    pipeline, record = (os.path.join(view.examples, name) for name in ("pipeline.boc", "transfer.record"))
+    runs = [([pipeline], "pipeline.boc", None), (["-w", "4", "--seed", "3", pipeline], "pipeline.boc", "4 workers, seed 3"),
+            (["-w2", "--seed", "3", "--depth", "2", pipeline], "pipeline.boc", "2 workers, seed 3, depth 2"),
+            (["--timed", "-w", "1", pipeline], "pipeline.boc", "timed on 1 worker"), (["--timed", "-p4", pipeline], "pipeline.boc", "timed on 4 workers"),
+            ([record], "transfer.record", None),
+            (["--record", record, os.path.join(view.examples, "transfer.boc")], "transfer.boc", "the run in transfer.record")]
+    for words_, title, run in runs:
+        for command in ("plan", "curve"):
+            svg = view.run([command, *words_]).output
+            drawing = Drawing(svg)
+            found = [it.text for it in drawing.root.findall(f"{SPACE}text") if class_of(it) in ("t", "s") and it.get("x") == "10"][:2 if run else 1]
+            wanted = [title, run] if run else [title]
+            label = drawing.root.get("aria-label")
+            fault = None if found == wanted and label.endswith(", ".join(wanted)) else f"it is {found}, {label!r}"
+            yield f"{command}: the title with {words_[:-1]}", fault
+            size = (drawing.root.get("width"), drawing.root.get("height"), drawing.root.get("viewBox").split()[:3])
+            wide = "1000" if command == "plan" else "720"
+            yield f"{command}: the size with {words_[:-1]}", None if size == ("100%", None, ["0", "0", wide]) else f"it is {size}"
+    timed = view.run(["plan", "--timed", "-w", "2", pipeline]).output
+    yield "plan: the timed run", None if Drawing(timed).heading("The timed run on 2 workers: end ") else "it is missing"
+    for command in (["curve"], ["curve", "-p", "2"]):
+        svg = view.run([*command, pipeline]).output.decode()
+        above = "" if command == ["curve"] else ", above"
+        yield f"{command}: the roof", None if f">parallelism 2.18{above}</text>" in svg and ('"roof"' in svg) else "it is missing"
+
+
+# Names of files that mean something in XML, or nothing on paper, and how they are drawn.
+HOSTILE = [("<b>&\"'.boc", "<b>&\"'.boc"), ("]]><script>", "]]><script>"), ("a\x01\x1b[0m\x7f", "a??[0m?"),
+           ("stra\u00dfe \u2013 \u20ac", "stra\u00dfe \u2013 \u20ac"),
+           ("c\u0085\u009b\uffff\ufffe", "c????"), ("\u00e9" * 70, "\u00e9" * 59 + "\u2026"), ("--><!--", "--><!--"), ("&amp;", "&amp;")]
+
+
+def hostile_names(view, pictures):
+    """Names of files, rows and cowns are text in a drawing, whatever they are."""
+    source, names = view.example("transfer.record"), b"= 0 <script>alert(1)</script>\n= 1 '\"&lt; ]]>\n@ 0 <!--&'\"-->\n"
+    with tempfile.TemporaryDirectory() as folder:
+        for name, shown in HOSTILE:
+            path = os.path.join(folder, name)
+            with open(path, "wb") as file:
+                file.write(source)
+            for command in (["plan", "--cowns", "-p", "2"], ["curve"]):
+                answer = view.run([*command, path])
+                fault = fault_of_xml(answer.output) or (None if Drawing(answer.output).title == shown else f"it is {Drawing(answer.output).title!r}")
+                yield f"{command[0]}: a file called {name!r}", fault
+                pictures.keep_drawing(f"{command[0]}: a file called {name!r}", answer.output)
+    answer = view.run_beside(["plan", "--cowns", "-p", "2"], "--names", names, source)
+    svg = answer.output
+    yield "plan: hostile names", fault_of_xml(svg)
+    pictures.keep_drawing("plan: hostile names", svg)
+    texts = [it.text for it in Drawing(svg).root.iter(f"{SPACE}text")]
+    yield "plan: they are text", None if "<!--&'\"-->" in texts and "0 <script>alert…" in texts and b"<script" not in svg else f"they are {texts}"
+
+
+def sizes(view):
+    """Twice the rows take at most twice the bytes, and a little."""
+    shapes = (("one def over one cown", lambda count: fan_text(1, fan(count, lambda _: (0,), lambda _: 3)), lambda _: b""),
+              ("rows of many defs", lambda count: fan_text(9, fan(count, lambda it: (it % 9,), lambda it: it % 40 + 1)),
+               lambda count: "".join(f"= {row} def{row} {row}\n" for row in range(count)).encode()))
+    for name, record, names in shapes:
+        for words_ in (["plan"], ["plan", "--cowns", "-p", "4"]):
+            lengths = [len(view.run_beside(words_, "--names", names(count), record(count)).output) for count in (2_000, 4_000)]
+            inputs = [len(record(count)) + len(names(count)) for count in (2_000, 4_000)]
+            fault = None if lengths[1] < 2.2 * lengths[0] + 9_000 and lengths[1] < 20 * inputs[1] + 9_000 else f"{lengths} bytes of {inputs}"
+            yield f"{words_}: the size of {name}", fault
+
+
 def traces(view):
     for number, rows in enumerate(random_records(2, RANDOM)):
         yield f"trace: {number}", fault_of_trace(view.run(["trace", "--p", "3"], record_of(rows)).output, rows)
@@ -599,7 +1013,8 @@ def names_that_mean_something(view, pictures):
 
 
 def words(view):
-    for words_ in (["text", "--depth", "2"], ["plan", "--p", "65"], ["plan", "--workers", "17"], ["picture"], ["plan", "--cowns"], ["text", "--width", "39"]):
+    for words_ in (["text", "--depth", "2"], ["plan", "--p", "65"], ["plan", "--workers", "17"], ["picture"], ["curve", "--cowns"], ["page", "--cowns"],
+                   ["text", "--width", "39"]):
         answer = view.run(words_)
         yield f"words: {words_}", None if answer.status == 2 and not answer.output and answer.errors else f"the answer {answer}"
     yield "a faulty program", fault_of(refused(3, "boc: line 1: 5 UnknownName"), view.run(["plan"], b"main { x = 1; }"))
@@ -680,7 +1095,8 @@ def at_the_limit(view):
 def wants(view):
     """A full disk is told, and each request for memory refused in turn."""
     source = view.example("transfer.record")
-    commands = [["text"], ["text", "--cowns"], ["text", "--p", "2"], ["text", "--curve"], ["plan", "--p", "2"], ["curve"], ["page"], ["trace", "--p", "2"]]
+    commands = [["text"], ["text", "--cowns"], ["text", "--p", "2"], ["text", "--curve"], ["plan", "--p", "2", "--cowns"], ["curve"], ["page"],
+                ["trace", "--p", "2"]]
     with tempfile.TemporaryDirectory() as folder:
         library = os.path.join(folder, "refuse.so")
         fault = memory.build(library)

@@ -1,23 +1,10 @@
 // Ticks as places along a line.
 
+use crate::html::put;
+use boc_text::put_number;
 use std::alloc::AllocError;
-use std::fmt;
 
-/// A length in tenths of a pixel, written in pixels.
-#[derive(Clone, Copy, PartialEq, Eq, Debug)]
-pub(crate) struct Tenths(pub(crate) u64);
-
-impl fmt::Display for Tenths {
-    fn fmt<W: fmt::Write>(&self, f: &mut fmt::Formatter<W>) -> fmt::Result {
-        if self.0 % 10 == 0 {
-            write!(f, "{}", self.0 / 10)
-        } else {
-            write!(f, "{}.{}", self.0 / 10, self.0 % 10)
-        }
-    }
-}
-
-/// Where numbers up to an end are on a line: it begins at a place, and is so long. Places and lengths are tenths of a pixel.
+/// Where numbers up to an end are on a line: it begins at a place, and is so long. Places and lengths are hundredths of a pixel.
 #[derive(Clone, Copy, Debug)]
 pub(crate) struct Axis {
     pub(crate) end: u64,
@@ -32,8 +19,13 @@ impl Axis {
     }
 
     /// Returns the place of a number.
-    pub(crate) fn at(self, number: u64) -> Tenths {
-        Tenths(self.from.saturating_add(self.long(number)))
+    pub(crate) fn at(self, number: u64) -> u64 {
+        self.from.saturating_add(self.long(number))
+    }
+
+    /// Returns how long the line is between two numbers: what is from one to the next adds up to what is from the first to the last.
+    pub(crate) fn between(self, start: u64, end: u64) -> u64 {
+        self.long(end).saturating_sub(self.long(start))
     }
 
     /// Returns how far from each other the numbers are that are next to the line: a power of ten, or two or five of it, at most this many of them.
@@ -65,25 +57,118 @@ fn next_step(step: u64) -> u64 {
     }
 }
 
-/// Puts the numbers above a line, and a thin line under each down to a place.
+/// Appends a length in hundredths of a pixel to a text, in pixels.
+pub(crate) fn put_length(text: &mut Vec<u8>, hundredths: u64) -> Result<(), AllocError> {
+    put_number(text, hundredths / 100)?;
+    let rest = hundredths % 100;
+    if rest == 0 {
+        return Ok(());
+    }
+    text.push(b'.')?;
+    put_number(text, rest / 10)?;
+    if rest % 10 == 0 {
+        return Ok(());
+    }
+    put_number(text, rest % 10)
+}
+
+/// A rectangle, in hundredths of a pixel.
+#[derive(Clone, Copy, Debug)]
+pub(crate) struct Area {
+    pub(crate) x: u64,
+    pub(crate) y: u64,
+    pub(crate) width: u64,
+    pub(crate) height: u64,
+}
+
+impl Area {
+    /// Returns what is from one tick to another one, from an edge on down, this high.
+    pub(crate) fn of(axis: Axis, start: u64, end: u64, y: u64, height: u64) -> Area {
+        Area {
+            x: axis.at(start),
+            y,
+            width: axis.between(start, end),
+            height,
+        }
+    }
+
+    /// Appends the rectangle to the shape of a path.
+    pub(crate) fn put(self, text: &mut Vec<u8>) -> Result<(), AllocError> {
+        text.push(b'M')?;
+        put_length(text, self.x)?;
+        text.push(b' ')?;
+        put_length(text, self.y)?;
+        text.push(b'h')?;
+        put_length(text, self.width)?;
+        text.push(b'v')?;
+        put_length(text, self.height)?;
+        put(text, "h-")?;
+        put_length(text, self.width)?;
+        text.push(b'z')?;
+        Ok(())
+    }
+}
+
+/// Appends a line from a point down to another height to the shape of a path.
+pub(crate) fn put_down(text: &mut Vec<u8>, x: u64, from: u64, to: u64) -> Result<(), AllocError> {
+    text.push(b'M')?;
+    put_length(text, x)?;
+    text.push(b' ')?;
+    put_length(text, from)?;
+    text.push(b'V')?;
+    put_length(text, to)
+}
+
+/// Appends a line from a point to another place to the shape of a path.
+pub(crate) fn put_across(text: &mut Vec<u8>, y: u64, from: u64, to: u64) -> Result<(), AllocError> {
+    text.push(b'M')?;
+    put_length(text, from)?;
+    text.push(b' ')?;
+    put_length(text, y)?;
+    text.push(b'H')?;
+    put_length(text, to)
+}
+
+// Appends the line of a number down to a place to a text, and the number above it. Every other number leaves a narrow drawing.
+fn put_mark(
+    text: &mut Vec<u8>,
+    axis: Axis,
+    tick: u64,
+    is_odd: bool,
+    top: u64,
+    foot: u64,
+) -> Result<(), AllocError> {
+    let x = axis.at(tick);
+    put(text, "<path d=\"")?;
+    put_down(text, x, top, foot)?;
+    put(
+        text,
+        if is_odd {
+            "\"/><text class=\"wide\" x=\""
+        } else {
+            "\"/><text x=\""
+        },
+    )?;
+    put_length(text, x)?;
+    put(text, "\" y=\"")?;
+    put_length(text, top.saturating_sub(500))?;
+    put(text, "\">")?;
+    put_number(text, tick)?;
+    put(text, "</text>\n")
+}
+
+/// Appends the numbers above a line to a text, and a thin line under each down to a place.
 pub(crate) fn put_axis(
-    text: &mut String,
+    text: &mut Vec<u8>,
     axis: Axis,
     top: u64,
-    bottom: u64,
+    foot: u64,
 ) -> Result<(), AllocError> {
     let step = axis.step(10);
-    text.push_str("<g class=\"axis\">\n")?;
+    put(text, "<g class=\"axis\">\n")?;
     for number in 0..=axis.end / step.max(1) {
         let tick = number.saturating_mul(step);
-        let x = axis.at(tick);
-        writeln!(
-            text,
-            "<path d=\"M{x} {}V{}\"/><text x=\"{x}\" y=\"{}\">{tick}</text>",
-            Tenths(top),
-            Tenths(bottom),
-            Tenths(top.saturating_sub(40))
-        )?;
+        put_mark(text, axis, tick, number % 2 == 1, top, foot)?;
     }
-    text.push_str("</g>\n")
+    put(text, "</g>\n")
 }

@@ -1,27 +1,37 @@
 // The ends of greedy plans as a drawing.
 
-use crate::axis::{Axis, Tenths};
+use crate::axis::{Axis, put_across, put_length};
 use crate::curve_lines::{enough, speed_up};
-use crate::drawing::{close, open, put_text};
+use crate::drawing::{Heading, Point, open_words, put_heading, put_words, whole};
+use crate::html::{put, put_hundredths};
 use boc_greedy::CurvePoint;
+use boc_text::put_number;
 use std::alloc::{AllocError, Global};
 
-// Lengths, in tenths of a pixel.
-const WIDTH: u64 = 7_200;
+// Lengths, in hundredths of a pixel.
+const WIDTH: u64 = 72_000;
 
-const HEIGHT: u64 = 4_600;
+const LEFT: u64 = 6_000;
 
-const LEFT: u64 = 700;
+const RIGHT: u64 = 2_500;
 
-const TOP: u64 = 500;
+const HIGH: u64 = 33_000;
 
-const BOTTOM: u64 = 3_800;
+/// A curve that is drawn.
+#[derive(Clone, Copy)]
+pub struct DrawnCurve<'a> {
+    pub heading: Heading<'a>,
+    pub work: u64,
+    pub span: u64,
+    pub points: &'a [CurvePoint],
+}
 
 /// Where the points of a curve are: across by workers, and up by the speed-up over one worker, in hundredths.
 #[derive(Clone, Copy)]
 struct Plot {
     across: Axis,
     up: Axis,
+    foot: u64,
 }
 
 /// An end that each number of workers has.
@@ -56,50 +66,53 @@ impl End {
 }
 
 impl Plot {
+    // Returns the plot of points whose greatest speed-up is this one, in hundredths, below an edge.
+    fn of(points: &[CurvePoint], most: u64, top: u64) -> Plot {
+        Plot {
+            across: Axis {
+                end: points.len() as u64,
+                from: LEFT,
+                length: WIDTH - LEFT - RIGHT,
+            },
+            up: Axis {
+                end: most.saturating_add(most / 10),
+                from: 0,
+                length: HIGH,
+            },
+            foot: top.saturating_add(HIGH),
+        }
+    }
+
     // Returns the place of a speed-up, from above.
-    fn y(self, hundredths: u64) -> Tenths {
-        Tenths(BOTTOM.saturating_sub(self.up.long(hundredths)))
+    fn y(self, hundredths: u64) -> u64 {
+        self.foot.saturating_sub(self.up.long(hundredths))
+    }
+
+    // Returns the place of some workers.
+    fn x(self, workers: u32) -> u64 {
+        self.across.at(u64::from(workers))
     }
 }
 
-/// Returns how much faster the greedy plan for each number of workers is than one worker, as a drawing in SVG, between what it can't fall below and what no
-/// plan gets above.
-pub fn curve_drawing(
-    alloc: Global,
-    work: u64,
-    span: u64,
-    points: &[CurvePoint],
-) -> Result<String, AllocError> {
-    let points = told(points);
-    let most = speed_up(work, span)
+/// Returns how much faster the greedy plan for each number of workers is than one worker, as a drawing in SVG. It is between what the plan can't fall below and
+/// what no plan gets above: as many times as there are workers, and work / span.
+pub fn curve_drawing(alloc: Global, curve: &DrawnCurve<'_>) -> Result<Vec<u8>, AllocError> {
+    let points = told(curve.points);
+    let most = speed_up(curve.work, curve.span)
         .min((points.len() as u64).saturating_mul(100))
         .max(100);
-    let plot = Plot {
-        across: Axis {
-            end: points.len() as u64,
-            from: LEFT,
-            length: WIDTH - LEFT - 300,
-        },
-        up: Axis {
-            end: most.saturating_add(most / 10),
-            from: 0,
-            length: BOTTOM - TOP,
-        },
-    };
-    let mut text = String::new(alloc);
-    open(&mut text, WIDTH, HEIGHT)?;
-    writeln!(
-        text,
-        "<text class=\"title\" x=\"10\" y=\"24\">How much faster p workers are: work {work}, span {span}</text>"
-    )?;
+    let mut text = Vec::new(alloc);
+    let y = put_heading(&mut text, curve.heading)?;
+    put_words_above(&mut text, curve, y.saturating_add(2_000))?;
+    let plot = Plot::of(points, most, y.saturating_add(5_000));
     put_scales(&mut text, plot, most)?;
+    put_roofs(&mut text, plot, curve)?;
     for end in [End::Least, End::Bound, End::Greedy] {
-        put_curve(&mut text, plot, work, points, end)?;
+        put_curve(&mut text, plot, curve.work, points, end)?;
     }
-    put_dots(&mut text, plot, work, points)?;
-    put_key(&mut text)?;
-    close(&mut text)?;
-    Ok(text)
+    put_dots(&mut text, plot, curve.work, points)?;
+    let y = put_key(&mut text, plot.foot.saturating_add(6_500))?;
+    whole(alloc, curve.heading, "The speed-up of ", WIDTH, y, &text)
 }
 
 // Returns the points up to where twice as many workers are as gain anything, and eight at least.
@@ -111,102 +124,200 @@ fn told(points: &[CurvePoint]) -> &[CurvePoint] {
     }
 }
 
-// Puts the frame, the numbers of workers below it, and the speed-ups next to it.
-fn put_scales(text: &mut String, plot: Plot, most: u64) -> Result<(), AllocError> {
-    writeln!(
+// Appends what the curve is of to a text.
+fn put_words_above(text: &mut Vec<u8>, curve: &DrawnCurve<'_>, y: u64) -> Result<(), AllocError> {
+    open_words(text, "h", Point { x: 1_000, y })?;
+    put(text, "Speed-up by workers: work ")?;
+    put_number(text, curve.work)?;
+    put(text, ", span ")?;
+    put_number(text, curve.span)?;
+    put(text, "</text>\n")
+}
+
+// Appends the frame, the numbers of workers below it, and the speed-ups next to it to a text.
+fn put_scales(text: &mut Vec<u8>, plot: Plot, most: u64) -> Result<(), AllocError> {
+    let top = plot.foot.saturating_sub(HIGH);
+    put(text, "<path class=\"frame\" d=\"M")?;
+    put_length(text, LEFT)?;
+    text.push(b' ')?;
+    put_length(text, top)?;
+    text.push(b'V')?;
+    put_length(text, plot.foot)?;
+    text.push(b'H')?;
+    put_length(text, WIDTH - RIGHT)?;
+    put(text, "\"/>\n")?;
+    put_numbers(text, plot)?;
+    put_levels(text, plot, most)?;
+    let y = top.saturating_sub(800);
+    put_words(
         text,
-        "<path class=\"frame\" d=\"M{} {}V{}H{}\"/>",
-        Tenths(LEFT),
-        Tenths(TOP),
-        Tenths(BOTTOM),
-        Tenths(WIDTH - 300)
+        "s",
+        Point { x: 1_000, y },
+        b"times faster than one",
+        40,
     )?;
-    text.push_str("<g class=\"axis\">\n")?;
+    let y = plot.foot.saturating_add(3_800);
+    let x = WIDTH / 2;
+    put_words(text, "s m", Point { x, y }, b"workers", 40)
+}
+
+// Appends the numbers of workers to a text.
+fn put_numbers(text: &mut Vec<u8>, plot: Plot) -> Result<(), AllocError> {
     let step = plot.across.step(16);
     for number in 1..=plot.across.end / step.max(1) {
         let workers = number.saturating_mul(step);
-        writeln!(
-            text,
-            "<text x=\"{}\" y=\"{}\">{workers}</text>",
-            plot.across.at(workers),
-            Tenths(BOTTOM + 170)
-        )?;
+        let at = Point {
+            x: plot.across.at(workers),
+            y: plot.foot.saturating_add(1_800),
+        };
+        open_words(text, "s m", at)?;
+        put_number(text, workers)?;
+        put(text, "</text>\n")?;
     }
-    let step = Axis {
+    Ok(())
+}
+
+// Appends the lines of the speed-ups to a text, each with its number.
+fn put_levels(text: &mut Vec<u8>, plot: Plot, most: u64) -> Result<(), AllocError> {
+    let whole = Axis {
         end: plot.up.end / 100,
         ..plot.up
-    }
-    .step(10);
+    };
+    let step = whole.step(10);
+    put(text, "<g class=\"axis\">\n")?;
     for number in 0..=most / step.saturating_mul(100).max(1) {
         let times = number.saturating_mul(step);
         let y = plot.y(times.saturating_mul(100));
-        writeln!(
-            text,
-            "<path d=\"M{} {y}H{}\"/><text x=\"{}\" y=\"{y}\" dy=\"4\">{times}</text>",
-            Tenths(LEFT),
-            Tenths(WIDTH - 300),
-            Tenths(LEFT - 250)
-        )?;
+        put(text, "<path d=\"")?;
+        put_across(text, y, LEFT, WIDTH - RIGHT)?;
+        put(text, "\"/>")?;
+        let at = Point {
+            x: LEFT - 1_800,
+            y: y.saturating_add(400),
+        };
+        open_words(text, "s", at)?;
+        put_number(text, times)?;
+        put(text, "</text>\n")?;
     }
-    text.push_str("</g>\n")?;
-    put_text(text, "small", WIDTH / 2, BOTTOM + 400, "workers")?;
-    put_text(text, "small", 100, TOP - 60, "times faster than one")
+    put(text, "</g>\n")
 }
 
-// Puts the line through all points of a kind.
+// Appends what no plan gets above to a text: as many times as there are workers, up to work / span, and that.
+fn put_roofs(text: &mut Vec<u8>, plot: Plot, curve: &DrawnCurve<'_>) -> Result<(), AllocError> {
+    let parallelism = speed_up(curve.work, curve.span);
+    let workers = plot.across.end.saturating_mul(100);
+    let end = parallelism.min(workers);
+    put(text, "<polyline class=\"linear\" points=\"")?;
+    put_point(text, plot.across.at(0), plot.y(0))?;
+    let length = plot.across.length;
+    let x = LEFT.saturating_add(end.saturating_mul(length) / workers.max(1));
+    put_point(text, x, plot.y(end))?;
+    put(
+        text,
+        "\"><title>as many times faster as there are workers</title></polyline>\n",
+    )?;
+    let at = Point {
+        x: WIDTH - RIGHT,
+        y: plot.y(end).saturating_sub(600),
+    };
+    open_words(text, "s e", at)?;
+    put(text, "parallelism ")?;
+    put_hundredths(text, parallelism)?;
+    if parallelism > workers {
+        return put(text, ", above</text>\n");
+    }
+    put(text, "</text>\n<path class=\"roof\" d=\"")?;
+    put_across(text, plot.y(end), LEFT, WIDTH - RIGHT)?;
+    put(text, "\"/>\n")
+}
+
+// Appends two places to a text.
+fn put_point(text: &mut Vec<u8>, x: u64, y: u64) -> Result<(), AllocError> {
+    put_length(text, x)?;
+    text.push(b',')?;
+    put_length(text, y)?;
+    text.push(b' ')?;
+    Ok(())
+}
+
+// Appends the line through all points of a kind to a text.
 fn put_curve(
-    text: &mut String,
+    text: &mut Vec<u8>,
     plot: Plot,
     work: u64,
     points: &[CurvePoint],
     end: End,
 ) -> Result<(), AllocError> {
-    write!(text, "<polyline class=\"{}\" points=\"", end.class())?;
+    put(text, "<polyline class=\"")?;
+    put(text, end.class())?;
+    put(text, "\" points=\"")?;
     for point in points {
-        let y = plot.y(speed_up(work, end.of(point)));
-        write!(text, "{},{y} ", plot.across.at(point.workers as u64))?;
+        put_point(
+            text,
+            plot.x(point.workers),
+            plot.y(speed_up(work, end.of(point))),
+        )?;
     }
-    text.push_str("\"/>\n")
+    put(text, "\"/>\n")
 }
 
-// Puts a dot for each greedy plan, with what a mouse shows.
+// Appends a dot for each greedy plan to a text, with what a mouse shows.
 fn put_dots(
-    text: &mut String,
+    text: &mut Vec<u8>,
     plot: Plot,
     work: u64,
     points: &[CurvePoint],
 ) -> Result<(), AllocError> {
-    text.push_str("<g class=\"dots\">\n")?;
+    put(text, "<g class=\"dots\">\n")?;
     for point in points {
-        let speed_up = speed_up(work, point.end);
-        write!(
-            text,
-            "<circle cx=\"{}\" cy=\"{}\" r=\"3\">",
-            plot.across.at(point.workers as u64),
-            plot.y(speed_up)
-        )?;
-        writeln!(
-            text,
-            "<title>workers {}: end {}, no plan of this run before {}, bound {}; {}.{:02} times faster than one</title></circle>",
-            point.workers,
-            point.end,
-            point.low,
-            point.bound,
-            speed_up / 100,
-            speed_up % 100
-        )?;
+        put(text, "<circle r=\"3\" cx=\"")?;
+        put_length(text, plot.x(point.workers))?;
+        put(text, "\" cy=\"")?;
+        put_length(text, plot.y(speed_up(work, point.end)))?;
+        put(text, "\"><title>")?;
+        put_told(text, work, point)?;
+        put(text, "</title></circle>\n")?;
     }
-    text.push_str("</g>\n")
+    put(text, "</g>\n")
 }
 
-// Puts what the lines are.
-fn put_key(text: &mut String) -> Result<(), AllocError> {
-    let y = HEIGHT - 150;
-    let line = Tenths(y - 40);
-    writeln!(text, "<path class=\"least\" d=\"M10 {line}h30\"/>")?;
-    put_text(text, "small", 480, y, "no faster plan of this run")?;
-    writeln!(text, "<path class=\"greedy\" d=\"M220 {line}h30\"/>")?;
-    put_text(text, "small", 2_580, y, "the greedy plan")?;
-    writeln!(text, "<path class=\"bound\" d=\"M410 {line}h30\"/>")?;
-    put_text(text, "small", 4_480, y, "it is no slower")
+// Appends what a mouse shows at a point to a text.
+fn put_told(text: &mut Vec<u8>, work: u64, point: &CurvePoint) -> Result<(), AllocError> {
+    put(text, "workers ")?;
+    put_number(text, u64::from(point.workers))?;
+    put(text, ": end ")?;
+    put_number(text, point.end)?;
+    put(text, ", no plan of this run before ")?;
+    put_number(text, point.low)?;
+    put(text, ", bound ")?;
+    put_number(text, point.bound)?;
+    put(text, "; ")?;
+    put_hundredths(text, speed_up(work, point.end))?;
+    put(text, " times faster than one")
+}
+
+// Appends what the lines are to a text, and returns where that ends.
+fn put_key(text: &mut Vec<u8>, top: u64) -> Result<u64, AllocError> {
+    let signs: [(&str, &[u8]); 5] = [
+        ("greedy", b"the greedy plan"),
+        ("least", b"no faster plan of this run"),
+        ("bound", b"guaranteed speed-up"),
+        ("linear", b"linear"),
+        ("roof", b"work / span"),
+    ];
+    let mut y = top;
+    for (number, (class, words)) in signs.iter().enumerate() {
+        if number > 0 && number % 2 == 0 {
+            y = y.saturating_add(2_400);
+        }
+        let x = if number % 2 == 0 { 1_000 } else { 37_000 };
+        put(text, "<path class=\"")?;
+        put(text, class)?;
+        put(text, "\" d=\"")?;
+        put_across(text, y.saturating_sub(400), x, x.saturating_add(3_000))?;
+        put(text, "\"/>\n")?;
+        let x = x.saturating_add(3_800);
+        put_words(text, "s", Point { x, y }, words, 40)?;
+    }
+    Ok(y.saturating_add(1_400))
 }

@@ -2,6 +2,8 @@
 
 use crate::html::{put, put_percent};
 use crate::page::Page;
+use crate::subject::Subject;
+use boc_page::Defs;
 use boc_text::put_number;
 use std::alloc::{AllocError, Global};
 
@@ -15,9 +17,13 @@ pub(crate) struct DefCosts {
 }
 
 /// Returns what the rows of each def take.
-pub(crate) fn costs_of(alloc: Global, page: &Page<'_>) -> Result<Vec<DefCosts>, AllocError> {
-    let mut costs = vec![in alloc; DefCosts::default(); page.defs.names.len()]?;
-    for (row, def) in page.subject.shown.iter().zip(&page.defs.of_rows) {
+pub(crate) fn costs_of(
+    alloc: Global,
+    subject: &Subject,
+    defs: &Defs,
+) -> Result<Vec<DefCosts>, AllocError> {
+    let mut costs = vec![in alloc; DefCosts::default(); defs.names.len()]?;
+    for (row, def) in subject.shown.iter().zip(&defs.of_rows) {
         if let Some(own) = costs.get_mut(*def as usize) {
             own.rows = own.rows.saturating_add(1);
             own.ticks = own.ticks.saturating_add(row.end.saturating_sub(row.start));

@@ -14,11 +14,11 @@ const MOST_LABEL: usize = 24;
 
 const LEAST_BARS: usize = 20;
 
-// How long a cown is held.
+/// How long a cown is held.
 #[derive(Clone, Copy)]
-struct Held {
-    cown: usize,
-    ticks: u64,
+pub(crate) struct Held {
+    pub(crate) cown: usize,
+    pub(crate) ticks: u64,
 }
 
 /// Returns which rows hold each cown in the earliest plan, in the given number of columns: a letter for each def, and what part of the span the cown is held.
@@ -76,8 +76,8 @@ fn by_start(alloc: Global, subject: &Subject) -> Result<Vec<Shown>, AllocError> 
     Ok(rows)
 }
 
-// Returns the cowns that some row has, and for how many ticks: those at which several rows read one count once.
-fn held_of(alloc: Global, subject: &Subject) -> Result<Vec<Held>, AllocError> {
+/// Returns the cowns that some row has, and for how many ticks: those at which several rows read one count once.
+pub(crate) fn held_of(alloc: Global, subject: &Subject) -> Result<Vec<Held>, AllocError> {
     let none = Holding { ticks: 0, until: 0 };
     let mut holdings = vec![in alloc; none; subject.names.cowns.len()]?;
     for row in &by_start(alloc, subject)? {

@@ -59,13 +59,21 @@ fn spelled(byte: u8) -> Option<&'static str> {
     }
 }
 
-/// Appends a text that comes from a run: what has a meaning in HTML is written by its name, and `?` is written for what is not printed.
+/// Appends a byte that comes from a run: what has a meaning in HTML is written by its name, and `?` is written for what is not printed.
+pub(crate) fn put_byte(text: &mut Vec<u8>, byte: u8) -> Result<(), AllocError> {
+    match spelled(byte) {
+        Some(words) => put(text, words),
+        None => {
+            text.push(byte)?;
+            Ok(())
+        }
+    }
+}
+
+/// Appends a text that comes from a run, byte by byte.
 pub(crate) fn put_html(text: &mut Vec<u8>, bytes: &[u8]) -> Result<(), AllocError> {
     for byte in bytes {
-        match spelled(*byte) {
-            Some(words) => put(text, words)?,
-            None => text.push(*byte)?,
-        }
+        put_byte(text, *byte)?;
     }
     Ok(())
 }

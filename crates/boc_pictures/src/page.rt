@@ -93,7 +93,7 @@ fn put_heading(text: &mut Vec<u8>, page: &Page<'_>) -> Result<(), AllocError> {
 
 /// Returns a page that is self-contained, in HTML: the answer, tables and the curve, and the data block with the script that draws the plans.
 pub fn page_text(alloc: Global, page: &Page<'_>) -> Result<Vec<u8>, AllocError> {
-    let costs = costs_of(alloc, page)?;
+    let costs = costs_of(alloc, page.subject, page.defs)?;
     let mut text = Vec::new(alloc);
     put(&mut text, BEFORE_TITLE)?;
     put_title(&mut text, page)?;

@@ -1,4 +1,4 @@
-// How names are spelled in a text, in XML and in JSON.
+// How names are spelled in a text and in JSON.
 
 use std::alloc::{AllocError, Global};
 
@@ -11,7 +11,6 @@ fn is_printable(byte: u8) -> bool {
 #[derive(Clone, Copy, PartialEq, Eq, Debug)]
 pub(crate) enum Spelling {
     Text,
-    Xml,
     Json,
 }
 
@@ -20,7 +19,6 @@ impl Spelling {
     pub(crate) fn of(self, alloc: Global, name: &[u8], most: usize) -> Result<String, AllocError> {
         match self {
             Spelling::Text => plain(alloc, name, most),
-            Spelling::Xml => xml(alloc, name, most),
             Spelling::Json => json(alloc, name, most),
         }
     }
@@ -43,21 +41,6 @@ fn plain(alloc: Global, name: &[u8], most: usize) -> Result<String, AllocError> 
     }
     if name.len() > most {
         text.push_str("..")?;
-    }
-    Ok(text)
-}
-
-// Returns a name in XML, at most this many bytes of it: what means something there is written by its name.
-fn xml(alloc: Global, name: &[u8], most: usize) -> Result<String, AllocError> {
-    let mut text = String::new(alloc);
-    for character in plain(alloc, name, most)?.chars() {
-        match character {
-            '<' => text.push_str("&lt;")?,
-            '>' => text.push_str("&gt;")?,
-            '&' => text.push_str("&amp;")?,
-            '"' => text.push_str("&quot;")?,
-            other => text.push(other)?,
-        }
     }
     Ok(text)
 }

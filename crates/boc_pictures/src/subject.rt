@@ -12,6 +12,7 @@ use boc_names::{Names, text_at};
 use boc_order::{Earliest, handed, spawned_at, waits_and_plan};
 use boc_plans::chain::ChainStep;
 use boc_plans::sharing::{SeenRows, Sharing};
+use boc_program::held::HeldCowns;
 use boc_program::short::HeldCown;
 use boc_runs::rows::Rows;
 use std::alloc::{AllocError, Global};
@@ -71,7 +72,9 @@ impl Subject {
     }
 
     /// Returns how many rows there are.
-    pub fn count(&self) -> usize {
+    pub fn count(&self) -> usize
+        ensures { result ≡ length self.now.shown.items }
+    {
         self.shown.len()
     }
 
@@ -109,6 +112,15 @@ impl Subject {
         }
     }
 
+    /// Returns the cowns that a row hands to another one, where there are such rows.
+    pub(crate) fn handed(&self, from: u32, to: u32) -> Option<HeldCowns> {
+        let seen = SeenRows::new(&self.rows, self.sharing);
+        if seen.len() <= from as usize || seen.len() <= to as usize {
+            return None;
+        }
+        Some(handed(&seen, from as usize, to as usize))
+    }
+
     /// Puts the names of the cowns that a row hands to another one, with ` and ` between them.
     pub(crate) fn put_handed(
         &self,
@@ -118,11 +130,9 @@ impl Subject {
         from: u32,
         to: u32,
     ) -> Result<(), AllocError> {
-        let seen = SeenRows::new(&self.rows, self.sharing);
-        if seen.len() <= from as usize || seen.len() <= to as usize {
+        let Some(handed) = self.handed(from, to) else {
             return Ok(());
-        }
-        let handed = handed(&seen, from as usize, to as usize);
+        };
         let mut first = true;
         for cown in handed.as_slice() {
             if !first {

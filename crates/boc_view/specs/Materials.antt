@@ -1,5 +1,6 @@
 -- What the pictures of a run are made of.
-use Rattle.std.specs.Prelude.{◌≡◌, ℕ, Bool, true, false, not, List, [], length, Option, Some, None, Vec, if◌then◌else◌}
+use Rattle.std.specs.Prelude.{◌≡◌, ◌++◌, ◌-◌, ℕ, zero, suc, Bool, true, false, not, List, [], length, codes, decimal, if◌then◌else◌}
+use Rattle.std.specs.Prelude.{Option, Some, None, Vec}
 use Rattle.std.specs.Global.{Global}
 use Rattle.boc_program.specs.declared.limits.TheConstants.{MOST_WORKERS}
 use Rattle.boc_runs.specs.declared.rows.Row.{Row}
@@ -22,6 +23,7 @@ use Rattle.boc_commands.specs.WhyAnswers.{asked_of}
 use Rattle.boc_commands.specs.NamedRuns.{BeginsRecord, HasRun, HasTimes, IsNamedRun}
 use Rattle.boc_commands.specs.TimedNotes.{IsNoteFor, workers_compared}
 use Rattle.boc_view.specs.declared.found.Found.{Found}
+use Rattle.boc_view.specs.declared.answer.TheConstants.{MOST_DRAWN}
 use Rattle.boc_view.specs.declared.wanted.TheConstants.{PAGE_WORKERS}
 use Rattle.boc_view.specs.declared.material.Material.{Material}
 use Rattle.boc_view.specs.declared.wanted.Picture.{Picture}
@@ -33,7 +35,7 @@ use Rattle.boc_view.specs.declared.wanted.Wanted.{Wanted}
 -- whether it shows which worker runs what: in the greedy plan for the workers that are asked for, and in a timed run
 abbrev pub shows_workers : Picture → Bool
 shows_workers (Text cowns curve) = not curve
-shows_workers Plan = true
+shows_workers (Plan cowns) = true
 shows_workers Curve = false
 shows_workers Page = true
 shows_workers Trace = true
@@ -41,7 +43,7 @@ shows_workers Trace = true
 -- whether it shows when the greedy plans for 1, 2, 3 and more workers end
 abbrev pub shows_curve : Picture → Bool
 shows_curve (Text cowns curve) = curve
-shows_curve Plan = false
+shows_curve (Plan cowns) = false
 shows_curve Curve = true
 shows_curve Page = true
 shows_curve Trace = false
@@ -49,7 +51,7 @@ shows_curve Trace = false
 -- whether it shows why the rows take as long as they do, what would help, and the program
 abbrev pub shows_costs : Picture → Bool
 shows_costs (Text cowns curve) = false
-shows_costs Plan = false
+shows_costs (Plan cowns) = false
 shows_costs Curve = false
 shows_costs Page = true
 shows_costs Trace = false
@@ -62,7 +64,7 @@ page_workers None = PAGE_WORKERS
 -- the workers whose greedy plan a picture shows, if any, where a number is given or not
 abbrev pub workers_for : Picture → Option ℕ → Option ℕ
 workers_for (Text cowns curve) workers = if curve then None else workers
-workers_for Plan workers = workers
+workers_for (Plan cowns) workers = workers
 workers_for Curve workers = None
 workers_for Page workers = Some (page_workers workers)
 workers_for Trace workers = workers
@@ -79,7 +81,7 @@ most_of None = MOST_WORKERS
 -- the same of a picture: a page has 64
 abbrev pub curve_most : Picture → Option ℕ → ℕ
 curve_most (Text cowns curve) workers = most_of workers
-curve_most Plan workers = most_of workers
+curve_most (Plan cowns) workers = most_of workers
 curve_most Curve workers = most_of workers
 curve_most Page workers = MOST_WORKERS
 curve_most Trace workers = most_of workers
@@ -87,6 +89,19 @@ curve_most Trace workers = most_of workers
 -- the most workers of the curve that is wanted
 abbrev pub curve_workers : Wanted → ℕ
 curve_workers wanted = curve_most wanted.picture wanted.workers
+
+-- the note on so many rows, so many more than a drawing is for; none where there are no more
+abbrev pub over_text : ℕ → ℕ → List ℕ
+over_text zero rows = []
+over_text (suc more) rows = codes "boc: note: " ++ decimal rows ++ codes " rows are many for a drawing: see boc-view page\n"
+
+-- the note on a picture of so many rows: only a drawing of plans has one
+abbrev pub size_note : Picture → ℕ → List ℕ
+size_note (Text cowns curve) rows = []
+size_note (Plan cowns) rows = over_text (rows - MOST_DRAWN) rows
+size_note Curve rows = []
+size_note Page rows = []
+size_note Trace rows = []
 
 -- ---- the parts
 

@@ -1,24 +1,28 @@
 // The picture that is requested.
 
-ghost use Rattle.std.specs.Prelude.{◌<◌};
+ghost use Rattle.std.specs.Prelude.{◌≡◌, ◌++◌, ◌<◌, length, IfOk, OnOk};
 ghost use Rattle.boc_commands.specs.Commands.{CountsSource};
 ghost use Rattle.boc_commands.specs.NamedRuns.{RefusesNamedRun};
+ghost use Rattle.boc_view.specs.Materials.{over_text, size_note};
 
 use crate::material::{Material, material_of};
-use crate::page::page_of;
+use crate::page::{page_of, run_text, title_of};
 use crate::wanted::{Picture, Wanted};
 use boc_commands::Fault;
-use boc_commands::named_run::taken;
+use boc_commands::named_run::{RECORD_WORD, taken};
 use boc_front::Watch;
 use boc_pictures::{
-    WorkerPlan, cowns_text, curve_drawing, curve_text, plan_drawing, plan_text, trace_text,
-    workers_text,
+    Drawn, DrawnCurve, Heading, WorkerPlan, cowns_text, curve_drawing, curve_text, plan_drawing,
+    plan_text, trace_text, workers_text,
 };
 use boc_progress::Progress;
-use boc_text::Source;
+use boc_text::{Source, put_number};
 use std::alloc::{AllocError, Global};
 use std::sync::Wait;
 use std::thread::Threads;
+
+// The most rows that a drawing of plans is for.
+const MOST_DRAWN: usize = 200;
 
 /// A picture, and what is noted of the run that it shows.
 #[derive(Drop)]
@@ -47,10 +51,36 @@ pub(crate) fn pictured<R: Threads + Wait + Sync, S: Source>(
     ensures source { CountsSource result (S.failures source.old) (S.failures source.new) }
 {
     let text = taken(alloc, source)?;
+    let is_program = !text.starts_with(RECORD_WORD);
     let material = material_of(rt, alloc, wanted, beside, text, watch, progress)?;
-    let text = drawn(alloc, wanted, &material, width)?;
-    let Material { note, .. } = material;
+    let text = drawn(alloc, wanted, &material, is_program, width)?;
+    let note = noted(wanted.picture, material)?;
     Ok(Shown { text, note })
+}
+
+// Returns what is noted of a picture that is made of this: that the timed run has another span, and that its rows are many.
+fn noted(picture: Picture, material: Material) -> Result<Vec<u8>, AllocError>
+    ensures { IfOk result (λ note. note.items ≡ material.note.items ++ size_note picture (length material.subject.shown.items)) }
+{
+    let rows = material.subject.count();
+    let Material { mut note, .. } = material;
+    match picture {
+        Picture::Plan { .. } => put_over(&mut note, rows.saturating_sub(MOST_DRAWN), rows)?,
+        Picture::Text { .. } | Picture::Curve | Picture::Page | Picture::Trace => {}
+    }
+    Ok(note)
+}
+
+// Appends the note on rows that are more than a drawing is for to others, where this many are more.
+fn put_over(text: &mut Vec<u8>, more: usize, rows: usize) -> Result<(), AllocError>
+    ensures { OnOk result (text.new.items ≡ text.old.items ++ over_text more rows) }
+{
+    if more == 0 {
+        return Ok(());
+    }
+    text.extend_from_slice(b"boc: note: ")?;
+    put_number(text, rows as u64)?;
+    text.extend_from_slice(b" rows are many for a drawing: see boc-view page\n")
 }
 
 // Returns the picture that is made of this.
@@ -58,13 +88,14 @@ fn drawn(
     alloc: Global,
     wanted: &Wanted,
     material: &Material,
+    is_program: bool,
     width: usize,
 ) -> Result<Vec<u8>, AllocError> {
     let subject = &material.subject;
     let text = match wanted.picture {
         Picture::Text { cowns, .. } => lines(alloc, material, cowns, width)?,
-        Picture::Plan => plan_drawing(alloc, subject, &on_workers(alloc, material)?)?,
-        Picture::Curve => curve_of(alloc, material)?,
+        Picture::Plan { cowns } => return plan_of(alloc, wanted, material, is_program, cowns),
+        Picture::Curve => return curve_of(alloc, wanted, material),
         Picture::Page => return page_of(alloc, wanted, material),
         Picture::Trace => trace_text(alloc, subject, &on_workers(alloc, material)?)?,
     };
@@ -83,13 +114,45 @@ fn on_workers(alloc: Global, material: &Material) -> Result<Vec<WorkerPlan<'_>>,
     Ok(plans)
 }
 
+// Returns the plans as a drawing, with the cowns or without them.
+fn plan_of(
+    alloc: Global,
+    wanted: &Wanted,
+    material: &Material,
+    is_program: bool,
+    cowns: bool,
+) -> Result<Vec<u8>, AllocError> {
+    let run = run_text(alloc, wanted)?;
+    let plans = on_workers(alloc, material)?;
+    let drawn = Drawn {
+        subject: &material.subject,
+        heading: Heading {
+            title: title_of(wanted),
+            run: &run,
+        },
+        is_program,
+        plans: &plans,
+        cowns,
+    };
+    plan_drawing(alloc, &drawn)
+}
+
 // Returns the curve as a drawing.
-fn curve_of(alloc: Global, material: &Material) -> Result<String, AllocError> {
-    let subject = &material.subject;
-    match &material.points {
-        Some(points) => curve_drawing(alloc, subject.work, subject.span, points),
-        None => Ok(String::new(alloc)),
-    }
+fn curve_of(alloc: Global, wanted: &Wanted, material: &Material) -> Result<Vec<u8>, AllocError> {
+    let Some(points) = &material.points else {
+        return Ok(Vec::new(alloc));
+    };
+    let run = run_text(alloc, wanted)?;
+    let curve = DrawnCurve {
+        heading: Heading {
+            title: title_of(wanted),
+            run: &run,
+        },
+        work: material.subject.work,
+        span: material.subject.span,
+        points,
+    };
+    curve_drawing(alloc, &curve)
 }
 
 // Returns the lines that are asked for: the earliest plan where nothing else is.

@@ -159,16 +159,16 @@ fn base_name(path: &str) -> &[u8] {
     }
 }
 
-// Returns the name of the file that the input is in.
-fn title_of(wanted: &Wanted) -> &[u8] {
+/// Returns the name of the file that the input is in.
+pub(crate) fn title_of(wanted: &Wanted) -> &[u8] {
     match &wanted.input {
         Some(path) => base_name(path.as_str()),
         None => b"standard input",
     }
 }
 
-// Returns how the program was run; nothing where one thread ran it.
-fn run_text(alloc: Global, wanted: &Wanted) -> Result<Vec<u8>, AllocError> {
+/// Returns how the program was run; nothing where one thread ran it.
+pub(crate) fn run_text(alloc: Global, wanted: &Wanted) -> Result<Vec<u8>, AllocError> {
     let mut text = Vec::new(alloc);
     if let Some(RunFile::Record(path)) = &wanted.file {
         text.extend_from_slice(b"the run in ")?;

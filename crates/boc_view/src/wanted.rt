@@ -17,8 +17,9 @@ const PAGE_WORKERS: u32 = 4;
 pub(crate) enum Picture {
     /// Lines of text: the earliest plan, unless others are asked for.
     Text { cowns: bool, curve: bool },
-    /// A drawing of the earliest plan, with plans on workers below it: the greedy one where a number of workers is given, and that of a timed run.
-    Plan,
+    /// A drawing of the earliest plan, with plans on workers below it: the greedy one where a number of workers is given, and that of a timed run. It may
+    /// show the cowns too.
+    Plan { cowns: bool },
     /// A drawing of the ends of greedy plans.
     Curve,
     /// A page with all of it.
@@ -32,7 +33,7 @@ impl Picture {
     pub(crate) fn command(self) -> &'static str {
         match self {
             Picture::Text { .. } => "boc-view text",
-            Picture::Plan => "boc-view plan",
+            Picture::Plan { .. } => "boc-view plan",
             Picture::Curve => "boc-view curve",
             Picture::Page => "boc-view page",
             Picture::Trace => "boc-view trace",
@@ -45,7 +46,7 @@ impl Picture {
     {
         match self {
             Picture::Text { curve, .. } => !curve,
-            Picture::Plan | Picture::Page | Picture::Trace => true,
+            Picture::Plan { .. } | Picture::Page | Picture::Trace => true,
             Picture::Curve => false,
         }
     }
@@ -57,7 +58,7 @@ impl Picture {
         match self {
             Picture::Text { curve, .. } => curve,
             Picture::Curve | Picture::Page => true,
-            Picture::Plan | Picture::Trace => false,
+            Picture::Plan { .. } | Picture::Trace => false,
         }
     }
 

@@ -31,6 +31,8 @@ ticks add up to the span.
          --curve, prints what these show instead; with --curve not what --p
          does. --curve shows the ends of greedy plans for 1, 2, 4 .. workers,
          up to P.
+  plan   Has a lane for each of up to 60 behaviours, else for each def. For
+         more than 200, a note on standard error says to take `page`.
   page   Says what holds the run back with P workers, 4 if --p is missing, and
          what would help, as boc why and boc cowns do. Shows the plans, to zoom
          into, search and edit, with tables, the curve and the program.
@@ -84,9 +86,10 @@ fn parser<'a>(alloc: Global) -> Result<Command<'a>, AllocError> {
         .subcommand_required(true)
         .arg_required_else_help(true)
         .bin_name("boc-view")?;
-    parser = parser.subcommand(text_command(alloc)?)?;
+    parser = parser
+        .subcommand(text_command(alloc)?)?
+        .subcommand(plan_command(alloc)?)?;
     for (name, about) in [
-        ("plan", "Draw the earliest plan as SVG"),
         ("curve", "Draw the speedup by number of workers as SVG"),
         (
             "page",
@@ -123,6 +126,18 @@ fn text_command<'a>(alloc: Global) -> Result<Command<'a>, AllocError> {
                 .value_parser(value_parser!(u32).range(LEAST_COLUMNS..=MOST_COLUMNS))
                 .help("Use 40 to 1000 columns [default: the terminal's or 100]"),
         )?;
+    with_common(alloc, command)
+}
+
+// Returns the command that draws plans.
+fn plan_command<'a>(alloc: Global) -> Result<Command<'a>, AllocError> {
+    let command = Command::new(alloc, "plan")
+        .about("Draw the earliest plan as SVG")
+        .arg(flag(
+            alloc,
+            "cowns",
+            "Also draw which rows hold each cown, and how many wait",
+        ))?;
     with_common(alloc, command)
 }
 
@@ -219,7 +234,9 @@ fn asked_of(alloc: Global, matches: &ArgMatches) -> Result<Asked, Fault> {
         return refused(alloc, ErrorKind::MissingSubcommand, "no picture is named");
     };
     let picture = match name {
-        "plan" => Picture::Plan,
+        "plan" => Picture::Plan {
+            cowns: is_set(matches, "cowns"),
+        },
         "curve" => Picture::Curve,
         "page" => Picture::Page,
         "trace" => Picture::Trace,

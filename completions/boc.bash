@@ -10,7 +10,7 @@ _boc_options() {
     run) echo -h --help -w --workers --seed --depth --timed --quiet ;;
     profile) echo -h --help -w --workers --seed --depth --timed --record -p --p --shared-reads --no-plan --quiet ;;
     time) echo -h --help -w --workers --seed --depth --timed -p --p --shared-reads --no-plan --quiet ;;
-    whatif) echo -h --help --without -w --workers --seed --depth --timed --record --program --names -p --p --shared-reads --short --no-plan ;;
+    whatif) echo -h --help --without --early -w --workers --seed --depth --timed --record --program --names -p --p --shared-reads --short --no-plan ;;
     curve) echo -h --help -w --workers --seed --depth --timed --record -p --p --shared-reads ;;
     sweep) echo -h --help --cowns -w --workers --seed --depth --timed --record --names -p --p --shared-reads --best --spawns ;;
     why) echo -h --help -w --workers --seed --depth --timed --record --names -p --p --shared-reads --all --then --quiet ;;
@@ -50,7 +50,7 @@ _boc() {
     if [[ $are_options ]]; then
         case $option in
         --record | --program | --names) _boc_files "$current" && return ;;
-        -w | --workers | --seed | --depth | --runs | -p | --p | --without | --best | --top | --then) return ;;
+        -w | --workers | --seed | --depth | --runs | -p | --p | --without | --early | --best | --top | --then) return ;;
         esac
     fi
     if [[ $current == -* && $are_options ]]; then

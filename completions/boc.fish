@@ -54,6 +54,7 @@ complete -c boc -n '__boc_is profile time whatif curve sweep why cowns' -l share
 complete -c boc -n '__boc_is profile time whatif' -l no-plan -d 'Do not print the rows of plans, nor of a timed run'
 complete -c boc -n '__boc_is whatif' -l short -d 'Print only work, span and chain, before and after'
 complete -c boc -n '__boc_is whatif' -l without -x -d 'Leave out a cown, or an array; may be given repeatedly'
+complete -c boc -n '__boc_is whatif' -l early -x -d 'Have a def spawn early; may be given repeatedly'
 complete -c boc -n '__boc_is sweep' -l cowns -d 'Leave out each cown in turn; do not lower rows'
 complete -c boc -n '__boc_is sweep' -l spawns -d 'Spawn each row as early as it can be; do not lower it'
 complete -c boc -n '__boc_is sweep' -l best -x -d 'Print the K best lines, 1 to 65,535, with their gain'

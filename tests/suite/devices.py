@@ -20,7 +20,7 @@ OF_PROGRAMS = [["values"], ["run"], ["time"], ["time", "--workers", "4", "--p", 
 OF_RECORDS = [["check"], ["profile"], ["profile", "--p", "2"], ["whatif"], ["whatif", "--p", "2", "2=1"], ["curve"], ["sweep"],
               ["sweep", "--p", "2"], ["sweep", "--cowns"], ["sweep", "--cowns", "--p", "2"], ["sweep", "--spawns"],
               ["whatif", "--without", "1", "2@3", "2=1/2"], ["why", "--all"], ["cowns", "--top", "1"],
-              ["whatif", "--without", "cown 1", "--short"]]
+              ["whatif", "--without", "cown 1", "--short"], ["whatif", "--early", "row 0"]]
 
 
 def source_of(program, words):

@@ -1115,6 +1115,9 @@ FILES = [
     (["whatif", "a.record", "1=2", "b.record"], "the input cannot be read from more than one FILE\n\nUsage: boc <COMMAND>", [
         f"`a.record` and `b.record` {ONE_FILE}",
         "an argument with neither = nor @ is a FILE, and each other one an edit"]),
+    (["whatif", "--early", "f", "a.boc", "--early=g", "b.boc"], "the input cannot be read from more than one FILE\n\nUsage: boc <COMMAND>", [
+        f"`a.boc` and `b.boc` {ONE_FILE}",
+        "an argument with neither = nor @ is a FILE, and each other one an edit"]),
     (["run", "--frob", "a.boc", "b.boc"], None, []),
 ]
 
@@ -1287,6 +1290,12 @@ def beside(program):
          ["no cown is called `acct`; the program's cowns are a, b"]),
         ("a def's name", ["whatif", "mov=1/2"], "--program", text, record, "edit 1: 7 NoDef",
          [NAMES_ARE, "no row belongs to a def `mov`; the program's defs are add, move, and main"]),
+        ("a def to spawn early", ["whatif", "--early", "main", "--early", "mov"], "--program", text, record, "early 2: 7 NoDef",
+         [NAMES_ARE, "no row belongs to a def `mov`; the program's defs are add, move, and main"]),
+        ("a def to spawn early that a file doesn't have", ["whatif", "--early", "mov"], "--names", b"= 1 work\n= 2 work 7\n= 3 rest\n", record,
+         "early 1: 7 NoDef", [NAMES_ARE, "no row belongs to a def `mov`; the file's defs are work, rest"]),
+        ("an edit of rows that spawn early", ["whatif", "--early", "main", "0=2"], "--program", text, record, "edit 1: 2 BelowSpawn",
+         ["`0=2`: a row takes at least 1 tick, and at least the offset of its last child"]),
         ("a def that a file doesn't have", ["whatif", "mov=1/2"], "--names", b"= 1 work\n= 2 work 7\n= 3 rest\n", record, "edit 1: 7 NoDef",
          [NAMES_ARE, "no row belongs to a def `mov`; the file's defs are work, rest"]),
         ("a def where a file names no row", ["whatif", "mov=1/2"], "--names", b"@ 0 pot\n", record, "edit 1: 7 NoDef",
@@ -1309,6 +1318,7 @@ def beside(program):
         yield name, told_in_file(program, words, option, content, source, fault, lines)
     lines = [NAMES_ARE, "no row belongs to a def `mov`; without either file each row is a def of its own, such as `row 0`"]
     yield "a def without names", difference(told("edit 1: 7 NoDef", lines), program.run(["whatif", "mov=1/2"], record))
+    yield "a def to spawn early without names", difference(told("early 1: 7 NoDef", lines), program.run(["whatif", "--early", "mov"], record))
     for words, fault, lines in RUN_EDITS:
         yield f"{words} of a program", difference(told(fault, lines), program.run(["whatif", *words], program.example("transfer.boc")))
     for words, fault, lines in [

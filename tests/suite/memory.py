@@ -23,6 +23,14 @@ span       9     8    -1
 chain    add 4, move 3, main 2   ->   main 3, move 3, add 2
 """
 
+# With main's spawns at its ticks 1, 2 and 3 add runs from 1 to 3, move from 3 to 6, and the other add from 6 to 8.
+EARLY_MAIN_SHORT = b"""\
+         was   now
+work      11    11
+span       9     8    -1
+chain    add 4, move 3, main 2   ->   add 4, move 3, main 1
+"""
+
 NO_DEF = "boc: edit 1: 7 NoDef\n     no row is of this def; names are those of --program FILE or --names FILE"
 
 REFUSE = os.path.join(os.path.dirname(os.path.dirname(os.path.abspath(__file__))), "refuse.c")
@@ -109,6 +117,8 @@ def runs(program):
     yield ["values", "--record", beside], text, done(b"a 12\nb 4\n")
     yield ["whatif", "--program", of_program, "--without", "a", "--short"], record, done(WITHOUT_A_SHORT)
     yield ["whatif", "--program", of_program, "nobody=1/2"], record, refused(3, NO_DEF)
+    yield ["whatif", "--program", of_program, "--early", "main", "--early", "main", "--short"], record, done(EARLY_MAIN_SHORT)
+    yield ["whatif", "--early", "row 0", "--early", "main"], record, refused(3, NO_DEF.replace("edit 1", "early 2"))
     yield ["whatif", "--without", "0"], record, done(WITHOUT_A.encode())
     yield ["whatif", "--without", "0", "--without", "0", "2=1/1", "2@3", "3=2"], record, done(WITHOUT_A.encode())
     yield ["whatif", "--without", "2"], record, refused(3, "boc: without 1: 6 NoCown")

@@ -9,7 +9,7 @@ from .programs import Program, RunNames, follow
 from .random_programs import random_program
 from .running import done, fault_of, refused
 from .why import rows_of
-from .whatif_names import short, supposed
+from .whatif_names import as_bytes, short, supposed
 
 EXAMPLES = ["transfer.boc", "pipeline.boc", "bank.boc", "four_squares.boc", "peeks.boc", "overflow.boc", "philosophers.boc", "tree.boc", "division.boc"]
 
@@ -156,12 +156,6 @@ def of_program(program, name, plain, text, chance):
         yield f"{name}: {words} --best --names", fault_of(done(best), program.run_beside([*words, "--best", str(most)], "--names", file, text))
 
 
-def as_bytes(names):
-    """Names of a run, as those of a file are laid over them."""
-    return names_file.Names(*([text.encode() for text in texts] for texts in (
-        names.rows, [names.def_names[number] for number in names.defs], names.cowns, [names.family_names[number] for number in names.families])))
-
-
 def asked(program, words, beside, text):
     return program.run_beside(words, "--record", beside, text) if beside else program.run(words, text)
 
@@ -170,9 +164,11 @@ def changes(program, name, rows, names, how, beside, text, chance):
     """`whatif` with defs and cowns by their names in the program."""
     cown = chance.choice(names.cowns + ["nobody"]) if names.cowns else None
     edits = [f"{chance.choice(names.def_names)}={chance.randint(1, 3)}/{chance.randint(1, 3)}" for _ in range(chance.randint(0, 2))]
-    words = (["--without", cown] if cown and chance.random() < 0.6 else [])
-    after = supposed(rows, as_bytes(names), words[1:], edits)
-    wanted = refused(3, after) if isinstance(after, str) else done(short(rows, after, as_bytes(names)))
+    without = [cown] if cown and chance.random() < 0.6 else []
+    early = [chance.choice(names.def_names + ["nothing"])] if chance.random() < 0.5 else []
+    words = [word for own in without for word in ("--without", own)] + [f"--early={own}" for own in early]
+    after = supposed(rows, as_bytes(names), without, edits, early)
+    wanted = refused(3, after) if isinstance(after, str) else done(short(rows, after, as_bytes(names), defs=[own.encode() for own in names.def_names]))
     yield f"{name}: whatif --short {words} {edits}", fault_of(wanted, asked(program, ["whatif", "--short", *words, *edits, *how], beside, text))
     if not isinstance(after, str):
         yield f"{name}: whatif {words} {edits}", fault_of(done(model.report(after)), asked(program, ["whatif", *words, *edits, *how], beside, text))

@@ -1,4 +1,5 @@
-"""What `whatif` tells of cowns and defs by name, computed plainly from the rows of a record and their names, and worked examples of it."""
+"""What `whatif` tells of cowns and defs by name, of those that spawn early too, computed plainly from the rows of a record and their names, and worked
+examples of it."""
 import os
 import random
 import re
@@ -6,13 +7,14 @@ import tempfile
 
 from . import model, names_file
 from .plans import random_rows, record_of
+from .programs import Program, RunNames, follow
 from .running import done, fault_of, refused
 from .why import rows_of, shares, steps_of, table
 
 MOST_TICKS = 1_000_000
 NO_COWN = "6 NoCown"
 NO_DEF = "7 NoDef\n     no row is of this def; names are those of --program FILE or --names FILE"
-NO_ROW, BELOW_SPAWN, TOO_MANY_TICKS = "1 NoRow", "2 BelowSpawn", "3 TooManyTicks"
+NO_ROW, BELOW_SPAWN, TOO_MANY_TICKS, NOT_BETWEEN = "1 NoRow", "2 BelowSpawn", "3 TooManyTicks", "5 NotBetween"
 
 
 def cowns_meant(names, word):
@@ -45,14 +47,29 @@ def changed(rows, row, change):
     return TOO_MANY_TICKS if change[0] > MOST_TICKS else model.edited(rows, row, change[0])
 
 
-def supposed(rows, names, cowns, edits):
-    """The rows without some cowns and after some edits, or the line of what is refused."""
+def spawned_early(rows, names, word):
+    """The rows in which each of a def spawns its first child at its tick 1, and each further one a tick later; none where no row is of the def."""
+    children = {row: 0 for row, own in enumerate(names.defs) if own == word.encode()}
+    after = list(rows)
+    for number, row in list(enumerate(rows))[1:]:
+        if row.parent in children:
+            children[row.parent] += 1
+            after[number] = row._replace(offset=children[row.parent])
+    return after if children else None
+
+
+def supposed(rows, names, cowns, edits, early=()):
+    """The rows without some cowns, with early spawns by some defs and after some edits, or the line of what is refused."""
     for number, word in enumerate(cowns, 1):
         meant = cowns_meant(names, word)
         if not meant:
             return f"boc: without {number}: {NO_COWN}"
         for cown in meant:
             rows = model.without(rows, cown)
+    for number, word in enumerate(early, 1):
+        rows = spawned_early(rows, names, word)
+        if rows is None:
+            return f"boc: early {number}: {NO_DEF}"
     for number, word in enumerate(edits, 1):
         meant = edits_meant(names, word)
         if not meant:
@@ -64,15 +81,15 @@ def supposed(rows, names, cowns, edits):
     return rows
 
 
-def heaviest(rows, names):
-    """The three defs that weigh most on the chain."""
-    numbers, def_names = names_file.groups(names.defs)
+def heaviest(rows, names, defs=None):
+    """The three defs that weigh most on the chain. Where these are all defs, those of one weight come in their order, and else in that of their first rows."""
+    numbers, def_names = ([defs.index(own) for own in names.defs], defs) if defs else names_file.groups(names.defs)
     steps = steps_of(rows, model.earliest_starts(rows))
     told = shares([numbers[step[0]] for step in steps], steps)
     return ", ".join([f"{def_names[key].decode()} {ticks}" for key, ticks, _ in told[:3]] + [".."] * (len(told) > 3))
 
 
-def short(rows, after, names, workers=None):
+def short(rows, after, names, workers=None, defs=None):
     """What rows come to before and after."""
     lines = [["", " was", " now", "    "], ["work  "] + [str(sum(row.ticks for row in each)) for each in (rows, after)] + [""]]
     ends = [("span", model.span(rows), model.span(after))]
@@ -80,14 +97,14 @@ def short(rows, after, names, workers=None):
         ends.append(("end", model.greedy_end(rows, workers), model.greedy_end(after, workers)))
     for name, was, now in ends:
         lines.append([name, str(was), str(now), f"{now - was:+d}" if now != was else ""])
-    return model.text(table("lrrr", lines) + [f"chain    {heaviest(rows, names)}   ->   {heaviest(after, names)}"])
+    return model.text(table("lrrr", lines) + [f"chain    {heaviest(rows, names, defs)}   ->   {heaviest(after, names, defs)}"])
 
 
-def wanted(rows, names, cowns, edits, workers, is_short):
-    after = supposed(rows, names, cowns, edits)
+def wanted(rows, names, cowns, edits, workers, is_short, early=(), defs=None):
+    after = supposed(rows, names, cowns, edits, early)
     if isinstance(after, str):
         return refused(3, after)
-    return done(short(rows, after, names, workers) if is_short else model.report(after, workers))
+    return done(short(rows, after, names, workers, defs) if is_short else model.report(after, workers))
 
 
 # A bank of 12 accounts; 24 transfers, each of which also notes itself in a log; an audit at the end of each day.
@@ -146,8 +163,18 @@ span     828   310  -518
 chain    transfer 688, audit 128, main 12   ->   audit 128, transfer 104, main 78
 """
 
+# The second parse, from tick 18 on, spawns its check at 19, not at 31, and all that come after it are 12 ticks sooner.
+EARLY_PARSES = """\
+         was   now
+work     609   609
+span     279   267   -12
+chain    price 228, parse 26, check 12, ..   ->   price 228, parse 14, check 12, ..
+"""
+
 # What is asked of each, and what it tells in short; the bank's accounts are one array.
 WORKED_BY_PROGRAM = [
+    ("pipeline", ["--early", "parse"], EARLY_PARSES),
+    ("pipeline", ["--early", "parse", "--early=parse"], EARLY_PARSES),
     ("pipeline", ["price=1/2"], CHEAPER_PRICES),
     ("bank", ["--without", "log", "transfer=1/2"], NO_LOG),
     ("bank", ["--without", "12", "transfer=1/2"], NO_LOG),
@@ -164,6 +191,18 @@ REFUSED_BY_PROGRAM = [
     (["nothing=1/2", "0=1"], f"boc: edit 1: {NO_DEF}"),
     (["parse=1000/1", "parse=1000/1"], f"boc: edit 2: {TOO_MANY_TICKS}"),
     (["price=1/2", "37=1"], f"boc: edit 2: {NO_ROW}"),
+    (["--early", "nothing"], f"boc: early 1: {NO_DEF}"),
+    (["--early", "parse", "--early", "Parse", "--early", "nothing"], f"boc: early 2: {NO_DEF}"),
+    (["--early", ""], f"boc: early 1: {NO_DEF}"),
+    (["--early", "parse=1/2"], f"boc: early 1: {NO_DEF}"),
+    (["--early", "1"], f"boc: early 1: {NO_DEF}"),
+    (["--early", "row 1"], f"boc: early 1: {NO_DEF}"),
+    (["--early", "p" * 100], f"boc: early 1: {NO_DEF}"),
+    (["--early", "nothing", "--without", "nobody"], f"boc: without 1: {NO_COWN}"),
+    (["nothing=1/2", "--early", "nothing"], f"boc: early 1: {NO_DEF}"),
+    (["--early", "keep", "nothing=1/2"], f"boc: edit 1: {NO_DEF}"),
+    (["0=11", "--early", "main"], f"boc: edit 1: {BELOW_SPAWN}"),
+    (["--early", "main", "price=1/2", "1@2"], f"boc: edit 2: {NOT_BETWEEN}"),
 ]
 
 # Five rows: main spawns two that share a cown of an array, and each of these spawns one that has another of it.
@@ -187,9 +226,14 @@ ALIKE_NAMES = b"@ 0 x\n@ 1 x[1]\n= 1 a=b\n= 2 a=b 1\n= 3 =c=\n= 4 5=6\n"
 ALIKE_SPANS = [(["--without", "x"], 16), (["--without", "x[*]"], 22), (["--without", "x[1]"], 22), (["a=b=1/2"], 16), (["=c==1/2", "5=6=1/2"], 22)]
 
 
+# A candidate of `why`: a def that spawns early, and then the end and the span, or the span alone, each with what is gained.
+EARLY = re.compile(rb"\n  early spawns by (\w+) +([ 0-9]+)")
+
+
 def cases(program):
     yield from of_programs(program)
     yield from of_files(program)
+    yield from of_candidates(program)
 
 
 def of_programs(program):
@@ -218,8 +262,45 @@ def of_files(program):
             yield from of_names(program, "family", FAMILY, names, path, cowns, ["ask=2/1"])
         for edits in ([], ["main=1/2", "tell=3/1"], ["tell=1/7", "ask=1/2"], ["ask=1/2", "4=1"], ["1=4"], ["ask=1/2", "1=2"], ["row 1=1/2"]):
             yield from of_names(program, "family", FAMILY, names, path, ["seat[1]"], edits)
+        for early in (["main"], ["ask"], ["tell"], ["ask", "main"], ["main", "main"], ["main", "asks"], ["row 1"], [""], ["a=b"], ["2"]):
+            for edits in ([], ["ask=2/1"], ["main=1/2", "0=2"], ["0=1"]):
+                yield from of_names(program, "family", FAMILY, names, path, ["log"], edits, early)
+        numbers = names_file.names_of(b"", len(rows), count)
+        for early in (["row 1"], ["row 2", "row 0"], ["row 4"], ["row 5"], ["main"], ["1"]):
+            yield from of_names(program, "family by numbers", FAMILY, numbers, None, [], ["1=9"], early)
         yield from of_alike(program, written(folder, "alike.names", ALIKE_NAMES))
         yield from random_cases(program, folder)
+
+
+def of_candidates(program):
+    """Each def that `why` lists as one that could spawn early comes with `--early` to what is listed, and to what the model has."""
+    listed = set()
+    for name in sorted(os.listdir(program.examples)):
+        text = program.example(name) if name.endswith(".boc") else None
+        if not text:
+            continue
+        record = program.run(["run"], text).output
+        rows, cowns = rows_of(record)
+        run_names = RunNames(follow(Program(text), record))
+        names, defs = as_bytes(run_names), [own.encode() for own in run_names.def_names]
+        for workers in (None, 4):
+            options = ["--p", str(workers)] if workers else []
+            for def_name, numbers in EARLY.findall(program.run(["why", *options], text).output):
+                numbers = numbers.decode().split()
+                listed.add(name)
+                word = def_name.decode()
+                answer = program.run(["whatif", "--short", *options, "--early", word], text)
+                yield f"{name}: whatif --early {word} {options}", fault_of(wanted(rows, names, [], [], workers, True, [word], defs), answer)
+                ends = model.greedy_end(spawned_early(rows, names, word), workers) if workers else None
+                told = [str(end) for end in (ends, model.span(spawned_early(rows, names, word))) if end]
+                yield f"{name}: why of early spawns by {word} {options}", None if told == numbers[::2] else f"it lists {numbers}, not {told}"
+    yield "examples with early spawns", None if len(listed) > 3 else f"only {sorted(listed)} list any"
+
+
+def as_bytes(names):
+    """Names of a run, as those of a file are laid over them."""
+    return names_file.Names(*([own.encode() for own in texts] for texts in (
+        names.rows, [names.def_names[number] for number in names.defs], names.cowns, [names.family_names[number] for number in names.families])))
 
 
 def of_alike(program, path):
@@ -231,14 +312,15 @@ def of_alike(program, path):
     yield "alike: why", None if re.search(rb"\n  without x +16 +6\n", told) else f"it tells {told!r}"
 
 
-def of_names(program, name, record, names, path, cowns, edits):
+def of_names(program, name, record, names, path, cowns, edits, early=()):
     rows, _ = rows_of(record)
-    given = [word for cown in cowns for word in ("--without", cown)] + edits
+    given = edits[:1] + [word for cown in cowns for word in ("--without", cown)] + [word for own in early for word in ("--early", own)] + edits[1:]
     for workers in (None, 2):
         for is_short in (False, True):
             options = (["--names", path] if path else []) + (["--p", str(workers)] if workers else []) + (["--short"] if is_short else [])
             answer = program.run(["whatif", *options, *given], record)
-            yield f"{name}: whatif {' '.join(options[2 if path else 0:] + given)}", fault_of(wanted(rows, names, cowns, edits, workers, is_short), answer)
+            told = wanted(rows, names, cowns, edits, workers, is_short, early)
+            yield f"{name}: whatif {' '.join(options[2 if path else 0:] + given)}", fault_of(told, answer)
 
 
 def random_cases(program, folder):
@@ -257,7 +339,8 @@ def random_cases(program, folder):
         for _ in range(4):
             cowns = chance.sample(["log", "seat", "seat[1]", "seats", "cown 0", "cown 3", "2", "4"], chance.choice([0, 0, 1, 1, 2]))
             edits = [random_word(chance, len(rows)) for _ in range(chance.choice([0, 1, 1, 2, 3]))]
-            yield from of_names(program, f"random names {number}", record, names, path, cowns, edits)
+            early = chance.sample(["main", "ask", "tell", "row 0", "row 1", "row 9"], chance.choice([0, 0, 1, 1, 2]))
+            yield from of_names(program, f"random names {number}", record, names, path, cowns, edits, early)
 
 
 def random_word(chance, rows):

@@ -57,10 +57,15 @@ pub(crate) fn explained(
 ) -> Result<String, AllocError> {
     match fault {
         Fault::Input(InputFault::Cown { number }) => missing_cown(alloc, command, texts, *number),
+        Fault::Input(InputFault::Early { number }) => {
+            missing_def(alloc, command, texts, early_def(command, *number))
+        }
         Fault::Input(InputFault::Edit { number, fault }) => {
             refused_edit(alloc, command, texts, *number, *fault)
         }
-        Fault::Input(InputFault::Def { number }) => missing_def(alloc, command, texts, *number),
+        Fault::Input(InputFault::Def { number }) => {
+            missing_def(alloc, command, texts, edited_def(command, *number))
+        }
         Fault::Input(fault) => explain_input(alloc, *fault, sources_of(command, path, texts)),
         Fault::Run(RunFault::Behaviours) if texts.input.is_whole() => {
             explain_behaviours(alloc, texts.input.as_slice(), depth_of(command))
@@ -168,12 +173,12 @@ fn missing_cown(
     texts: &Texts,
     number: usize,
 ) -> Result<String, AllocError> {
-    let Command::WhatIf { cowns, file, .. } = command else {
+    let Command::WhatIf { changes, file, .. } = command else {
         return Ok(String::new(alloc));
     };
     let input = texts.input.text(None);
     let naming = naming_of(file, texts).unwrap_or(Naming::Numbers);
-    match cowns.get(number.saturating_sub(1)) {
+    match changes.cowns.get(number.saturating_sub(1)) {
         Some(AskedCown::Number(cown)) => {
             let name = cown.to_string(alloc)?;
             explain_cown(alloc, input, naming, &name)
@@ -191,20 +196,20 @@ fn refused_edit(
     number: usize,
     fault: EditFault,
 ) -> Result<String, AllocError> {
-    let Command::WhatIf { edits, file, .. } = command else {
+    let Command::WhatIf { changes, file, .. } = command else {
         return Ok(String::new(alloc));
     };
     let Some(naming) = naming_of(file, texts) else {
         return Ok(String::new(alloc));
     };
-    let word = match edits.get(number.saturating_sub(1)) {
+    let word = match changes.edits.get(number.saturating_sub(1)) {
         Some(edit) => word_of(alloc, edit)?,
         None => return Ok(String::new(alloc)),
     };
-    if begins_program(texts.input.as_slice()) {
+    if begins_program(texts.input.as_slice()) || !changes.early.is_empty() {
         return explain_edit_of_run(alloc, &word, fault);
     }
-    let asked = asked_edits(alloc, edits, number)?;
+    let asked = asked_edits(alloc, &changes.edits, number)?;
     explain_edit(alloc, texts.input.text(None), naming, &word, &asked, fault)
 }
 
@@ -251,21 +256,38 @@ fn cost_word(alloc: Global, subject: &str, part: Part) -> Result<String, AllocEr
     format!(in alloc; "{subject}={over}/{under}")
 }
 
-// Returns an edit of a def that no row is of, counted from 1.
+// Returns what is reported of a def that no row is of, if words ask for one.
 fn missing_def(
     alloc: Global,
     command: &Command,
     texts: &Texts,
-    number: usize,
+    name: Option<&String>,
 ) -> Result<String, AllocError> {
-    let Command::WhatIf { edits, file, .. } = command else {
+    let Command::WhatIf { file, .. } = command else {
         return Ok(String::new(alloc));
     };
-    match (edits.get(number.saturating_sub(1)), naming_of(file, texts)) {
-        (Some(AskedEdit::Def { name, .. }), Some(naming)) => {
-            explain_def(alloc, texts.input.text(None), naming, name)
-        }
+    match (name, naming_of(file, texts)) {
+        (Some(name), Some(naming)) => explain_def(alloc, texts.input.text(None), naming, name),
         _ => Ok(String::new(alloc)),
+    }
+}
+
+// Returns the name of a def that must spawn early, counted from 1.
+fn early_def(command: &Command, number: usize) -> Option<&String> {
+    match command {
+        Command::WhatIf { changes, .. } => changes.early.get(number.saturating_sub(1)),
+        _ => None,
+    }
+}
+
+// Returns the name of the def that an edit is of, counted from 1.
+fn edited_def(command: &Command, number: usize) -> Option<&String> {
+    let Command::WhatIf { changes, .. } = command else {
+        return None;
+    };
+    match changes.edits.get(number.saturating_sub(1)) {
+        Some(AskedEdit::Def { name, .. }) => Some(name),
+        _ => None,
     }
 }
 

@@ -1,6 +1,10 @@
 -- What is asked for means the same whatever rows are called, where none is meant by a name and cowns are called by their numbers.
-use Rattle.std.proofs.Common.{◌≡◌, ◌≢◌, ◌∙◌, ◌&&◌, ◌++◌, ℕ, Bool, true, false, true≢false, List, [], ◌∷◌, inl, inr, ap₂, refl, subst, sym}
-use Rattle.std.specs.Prelude.{All, Err, Ok, Result}
+use Rattle.std.proofs.Common.{◌≡◌, ◌≢◌, ◌∙◌, ◌==◌, ◌&&◌, ◌++◌, ℕ, Bool, true, false, true≢false, List, [], ◌∷◌, String, inl, inr, length, ap, ap₂}
+use Rattle.std.proofs.Common.{not, suc, refl, subst, sym, arith}
+use Rattle.std.proofs.lemmas.Bool.Decides.{nat_tests}
+use Rattle.std.specs.Prelude.{All, Err, Ok, Result, string_bytes}
+use Rattle.std.specs.Global.{Global}
+use Rattle.std.proofs.lemmas.List.{length-append}
 use Rattle.std.specs.Result.{IsErrAnd}
 use Rattle.std.specs.List.{list_all}
 use Rattle.std.proofs.lemmas.List.Elements.{All-nil, All-cons, All-head, All-tail, All-weaker}
@@ -13,6 +17,7 @@ use Rattle.boc_plans.specs.Seen.{seen}
 use Rattle.boc_names.specs.declared.names.Names.{Names}
 use Rattle.boc_names.specs.Names.{AreNumbers}
 use Rattle.boc_why.specs.Causes.{without_all}
+use Rattle.boc_words.specs.declared.asked.AskedChanges.{AskedChanges}
 use Rattle.boc_words.specs.declared.asked.AskedCown.{AskedCown}
 use Rattle.boc_words.specs.declared.asked.AskedEdit.{AskedEdit}
 use Rattle.boc_words.specs.declared.asked.AskedEdit.TheVariants as edits
@@ -23,7 +28,8 @@ use Rattle.boc_commands.specs.declared.fault.InputFault.TheVariants as inputs
 use Rattle.boc_commands.specs.declared.fault.Want.TheVariants as wants
 use Rattle.boc_commands.specs.Answers.{IsReport}
 use Rattle.boc_commands.specs.Commands.{RefusesNothing}
-use Rattle.boc_commands.specs.Asked.{IsOfCowns, IsOfEdits, all_cowns, all_edits, cowns_of, edits_of, is_of_row, names_no_row}
+use Rattle.boc_commands.specs.Asked.{AreAskedEarly, IsOfCowns, IsOfEarly, IsOfEdits, all_cowns, all_edits, cowns_of, edits_of, is_of_row, names_no_row}
+use Rattle.boc_commands.specs.Asked.{rows_of}
 use Rattle.boc_commands.specs.WhatIfAnswers.{AreChangedSo, IsOfAsked, IsReportAfter, IsWhatIfReport, RefusesAsked}
 use Rattle.boc_commands.proofs.SameNames.{cowns_meant, same_cowns}
 
@@ -45,10 +51,20 @@ behind : (xs ys : List AskedEdit) → AreOfRows (xs ++ ys) → AreOfRows ys
 behind [] ys are = are
 behind (x ∷ xs) ys are = behind xs ys (parts x (xs ++ ys) are).1
 
--- what is asked for names no row, so all of its edits are of rows, and it is told in full
-pub named_none : (short : Bool) (asked : List AskedEdit) → names_no_row short asked ≡ true → (short ≡ false) × AreOfRows asked
-named_none true asked none = absurd (true≢false (sym none))
-named_none false asked none = (refl, none)
+more_than_none : (n : ℕ) → (suc n == 0) ≡ true → ⊥
+more_than_none n none = (let more : not (suc n == 0) ≡ true = grind (arith, nat_tests) in true≢false (sym (rw none at more)))
+
+no_length : {A : Type 0} (xs : List A) → (length xs == 0) ≡ true → xs ≡ []
+no_length [] none = refl
+no_length (x ∷ xs) none = absurd (more_than_none (length xs) none)
+
+-- what is asked for names no row, so no def is to spawn early, all of its edits are of rows, and it is told in full
+pub named_none : (short : Bool) (changes : AskedChanges) → names_no_row short changes ≡ true
+    → (short ≡ false) × (changes.early.items ≡ []) × AreOfRows changes.edits.items
+named_none true changes none = absurd (true≢false (sym none))
+named_none false changes none =
+    let both = and_true (length changes.early.items == 0) (list_all is_of_row changes.edits.items) none in
+    (refl, no_length changes.early.items both.0, both.1)
 
 module _ (a b : Names) where
   edit_meant : (x : AskedEdit) → is_of_row x ≡ true → edits_of a x ≡ edits_of b x
@@ -107,6 +123,21 @@ module _ (a b : Names) where
   edits_unfit rows asked (faults.Means wants.Memory) are u = u
   edits_unfit rows asked _ are u = u
 
+-- where no def is to spawn early, names don't matter
+no_early : (a b : Names) (before : List Row) (asked : List (String Global)) (after : List Row) → asked ≡ [] → AreAskedEarly a before asked after
+    → AreAskedEarly b before asked after
+no_early a b before [] after none early = record { known = All-nil (λ def. rows_of b (string_bytes def) ≢ []); made = early.made }
+no_early a b before (def ∷ defs) after none early = absurd (omega (arith, ap (length {A = String Global}) none))
+
+early_unmeant : (a b : Names) (asked : List (String Global)) (fault : Fault) → asked ≡ [] → IsOfEarly a asked fault → IsOfEarly b asked fault
+early_unmeant a b asked (faults.Input (inputs.Early number)) none u = absurd (omega (
+  arith,
+  ap (length {A = String Global}) (sym none ∙ u.split),
+  length-append u.before (u.one ∷ u.after),
+))
+early_unmeant a b asked (faults.Means wants.Memory) none u = u
+early_unmeant a b asked _ none u = u
+
 module _ (rows others count : ℕ) (a b : Names) (one : AreNumbers rows count a) (other : AreNumbers others count b) where
   cowns_unmeant : (asked : List AskedCown) (fault : Fault) → IsOfCowns a asked fault → IsOfCowns b asked fault
   cowns_unmeant asked (faults.Input (inputs.Cown number)) u = record {
@@ -126,54 +157,66 @@ module _ (rows others count : ℕ) (a b : Names) (one : AreNumbers rows count a)
   known_too asked known = All-weaker (λ x. cowns_of a x ≢ []) (λ x. cowns_of b x ≢ [])
       (λ x some none. some (cowns_meant rows others count a b one other x ∙ none)) asked known
 
+  spawned_too : (changes : AskedChanges) (before spawned : List Row) → changes.early.items ≡ []
+      → AreAskedEarly a (without_all (all_cowns a changes.cowns.items) before) changes.early.items spawned
+      → AreAskedEarly b (without_all (all_cowns b changes.cowns.items) before) changes.early.items spawned
+  spawned_too changes before spawned none early =
+      subst (λ (l : List ℕ). AreAskedEarly b (without_all l before) changes.early.items spawned)
+      (same_cowns rows others count a b one other changes.cowns.items)
+      (no_early a b (without_all (all_cowns a changes.cowns.items) before) changes.early.items spawned none early)
+
   -- the rows change so in the other names too
-  pub changed_too : (cowns : List AskedCown) (asked : List AskedEdit) (before after : List Row) → AreOfRows asked
-      → AreChangedSo a cowns asked before after → AreChangedSo b cowns asked before after
-  changed_too cowns asked before after are changed =
-      let left : List Row = without_all (all_cowns a cowns) before in
-      record {
-        known = known_too cowns changed.known;
-        asked_for = record {
-          known = some_meant a b asked are changed.asked_for.known;
-          edited = subst (λ (l : List ℕ). AreEdited (without_all l before) (all_edits b asked) after) (same_cowns rows others count a b one other cowns)
-              (subst (λ (l : List Edit). AreEdited left l after) (edits_meant a b asked are) changed.asked_for.edited);
-        };
-      }
+  pub changed_too : (changes : AskedChanges) (before after : List Row) → changes.early.items ≡ [] → AreOfRows changes.edits.items
+      → AreChangedSo a changes before after → AreChangedSo b changes before after
+  changed_too changes before after none are changed = record {
+    known = known_too changes.cowns.items changed.known;
+    spawned = changed.spawned;
+    early = spawned_too changes before changed.spawned none changed.early;
+    asked_for = record {
+      known = some_meant a b changes.edits.items are changed.asked_for.known;
+      edited = subst (λ (l : List Edit). AreEdited changed.spawned l after) (edits_meant a b changes.edits.items are) changed.asked_for.edited;
+    };
+  }
 
   -- and are refused so
-  asked_too : (cowns : List AskedCown) (asked : List AskedEdit) (before : List Row) (fault : Fault) → AreOfRows asked
-      → IsOfAsked a cowns asked before fault → IsOfAsked b cowns asked before fault
-  asked_too cowns asked before fault are (inl unmeant) = inl (cowns_unmeant cowns fault unmeant)
-  asked_too cowns asked before fault are (inr unfit) = inr (record {
-    known = known_too cowns unfit.known;
-    unfit = subst (λ (l : List ℕ). IsOfEdits b (without_all l before) asked fault) (same_cowns rows others count a b one other cowns)
-        (edits_unfit a b (without_all (all_cowns a cowns) before) asked fault are unfit.unfit);
-  })
+  asked_too : (changes : AskedChanges) (before : List Row) (fault : Fault) → changes.early.items ≡ [] → AreOfRows changes.edits.items
+      → IsOfAsked a changes before fault → IsOfAsked b changes before fault
+  asked_too changes before fault none are (inl unmeant) = inl (cowns_unmeant changes.cowns.items fault unmeant)
+  asked_too changes before fault none are (inr (inl early)) = inr (inl (record {
+    known = known_too changes.cowns.items early.known;
+    unmeant = early_unmeant a b changes.early.items fault none early.unmeant;
+  }))
+  asked_too changes before fault none are (inr (inr unfit)) = inr (inr (record {
+    known = known_too changes.cowns.items unfit.known;
+    spawned = unfit.spawned;
+    early = spawned_too changes before unfit.spawned none unfit.early;
+    unfit = edits_unfit a b unfit.spawned changes.edits.items fault are unfit.unfit;
+  }))
 
-  pub refused_too : (cowns : List AskedCown) (asked : List AskedEdit) (before : List Row) (fault : Fault) → AreOfRows asked
-      → IsOfAsked a cowns asked before fault → RefusesAsked {A = Unit {0}} b cowns asked before (Err fault)
-  refused_too cowns asked before (faults.Means want) are is = tt
-  refused_too cowns asked before fault are is = asked_too cowns asked before fault are is
+  pub refused_too : (changes : AskedChanges) (before : List Row) (fault : Fault) → changes.early.items ≡ [] → AreOfRows changes.edits.items
+      → IsOfAsked a changes before fault → RefusesAsked {A = Unit {0}} b changes before (Err fault)
+  refused_too changes before (faults.Means want) none are is = tt
+  refused_too changes before fault none are is = asked_too changes before fault none are is
 
 -- what a part refuses is refused
-pub refused_from : (names : Names) (cowns : List AskedCown) (asked : List AskedEdit) (rows : List Row) (result : Result (Unit {0}) Fault) (fault : Fault)
-    → IsErrAnd result (λ f. f ≡ fault) → RefusesAsked {A = Unit {0}} names cowns asked rows (Err fault) → RefusesAsked names cowns asked rows result
-refused_from names cowns asked rows (Ok done) fault h is = absurd h
-refused_from names cowns asked rows (Err f) fault h is =
-    subst (λ (x : Fault). RefusesAsked {A = Unit {0}} names cowns asked rows (Err x)) (sym h) is
+pub refused_from : (names : Names) (changes : AskedChanges) (rows : List Row) (result : Result (Unit {0}) Fault) (fault : Fault)
+    → IsErrAnd result (λ f. f ≡ fault) → RefusesAsked {A = Unit {0}} names changes rows (Err fault) → RefusesAsked names changes rows result
+refused_from names changes rows (Ok done) fault h is = absurd h
+refused_from names changes rows (Err f) fault h is =
+    subst (λ (x : Fault). RefusesAsked {A = Unit {0}} names changes rows (Err x)) (sym h) is
 
 -- what refuses nothing refuses nothing of what is asked for
-pub refused_none : (names : Names) (cowns : List AskedCown) (asked : List AskedEdit) (rows : List Row) (result : Result (Unit {0}) Fault)
-    → RefusesNothing result → RefusesAsked names cowns asked rows result
-refused_none names cowns asked rows (Ok done) h = tt
-refused_none names cowns asked rows (Err (faults.Means want)) h = tt
-refused_none names cowns asked rows (Err fault) h = absurd h
+pub refused_none : (names : Names) (changes : AskedChanges) (rows : List Row) (result : Result (Unit {0}) Fault)
+    → RefusesNothing result → RefusesAsked names changes rows result
+refused_none names changes rows (Ok done) h = tt
+refused_none names changes rows (Err (faults.Means want)) h = tt
+refused_none names changes rows (Err fault) h = absurd h
 
 -- the report on rows after they change, in these names
-pub reported : (names : Names) (cowns : List AskedCown) (asked : List AskedEdit) (sharing kept : Sharing) (plans : AskedPlans) (short : Bool)
-    (rows after : List Row) (text : List ℕ) → short ≡ false → kept ≡ sharing → AreChangedSo names cowns asked rows after
-    → IsReport (seen kept after) plans text → IsWhatIfReport names cowns asked sharing plans short rows text
-reported names cowns asked sharing kept plans short rows after text full way changed told = record {
+pub reported : (names : Names) (changes : AskedChanges) (sharing kept : Sharing) (plans : AskedPlans) (short : Bool)
+    (rows after : List Row) (text : List ℕ) → short ≡ false → kept ≡ sharing → AreChangedSo names changes rows after
+    → IsReport (seen kept after) plans text → IsWhatIfReport names changes sharing plans short rows text
+reported names changes sharing kept plans short rows after text full way changed told = record {
   after = after;
   changed = changed;
   told = subst (λ (s : Bool). IsReportAfter s names sharing plans rows after text) (sym full)

@@ -179,6 +179,7 @@ refused_unnamed bytes (Err f) fault before h wrong =
     go (faults.Input (inputs.Beside (files.Stray r))) w = w
     go (faults.Input (inputs.Program r)) w = w
     go (faults.Input (inputs.Cown n)) w = w
+    go (faults.Input (inputs.Early n)) w = w
     go (faults.Input (inputs.Edit n e)) w = w
     go (faults.Input (inputs.Def n)) w = w
     go (faults.Input (inputs.Stray r)) w = w

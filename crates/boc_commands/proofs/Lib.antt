@@ -2,6 +2,7 @@ pub mod Asked
 pub mod BestEnds
 pub mod MeantParts
 pub mod EditedParts
+pub mod EarlyRows
 pub mod WhatIfParts
 pub mod WhatIfNamed
 pub mod Promised

@@ -53,6 +53,15 @@ made_without {A} f is n start now next before fails same =
     (ap (map f) (sym (those_more is n ∙ ap (λ (b : Bool). filter is (range_with_len 0 n) ++ cond b (n ∷ []) []) fails
     ∙ append-nil (filter is (range_with_len 0 n)))))
 
+-- what is made of all numbers, with one more
+pub all_with : {A : Type 0} (f : ℕ → A) (n : ℕ) (now next : List A) (one : A) → now ≡ map f (range_with_len 0 n) → one ≡ f n → next ≡ now ++ one ∷ []
+    → next ≡ map f (range_with_len 0 (n + 1))
+all_with {A} f n now next one before is put =
+    put ∙ ap (λ (l : List A). l ++ one ∷ []) before ∙ ap (λ (a : A). map f (range_with_len 0 n) ++ a ∷ []) is
+    ∙ sym (ap (λ (k : ℕ). map f (range_with_len 0 k)) (let e : n + 1 ≡ suc n = omega arith in e)
+    ∙ ap (map f) (range_more 0 n ∙ ap (λ (k : ℕ). range_with_len 0 n ++ k ∷ []) (let e : 0 + n ≡ n = omega arith in e))
+    ∙ map-append f (range_with_len 0 n) (n ∷ []))
+
 -- ---- what all asked ones mean, one after the other
 
 -- one that means some is no empty list

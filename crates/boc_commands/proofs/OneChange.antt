@@ -1,7 +1,8 @@
 -- What is supposed of a record has one answer.
-use Rattle.std.proofs.Common.{◌≡◌, ◌∙◌, ◌||◌, ℕ, Bool, true, false, List, [], ◌∷◌, ◌++◌, length, map, Option, Some, None, Vec, ap, ap₂, refl, subst, sym}
+use Rattle.std.proofs.Common.{◌≡◌, ◌∙◌, ◌||◌, ℕ, Bool, true, false, List, [], ◌∷◌, ◌++◌, length, map, Option, Some, None, String, Vec, ap, ap₂, refl, subst, sym}
 use Rattle.std.specs.Prelude.{cond, filter, nat_lt, slice_index, string_bytes}
 use Rattle.std.specs.Global.{Global}
+use Rattle.std.specs.Int.{from_bool}
 use Rattle.std.specs.List.{range_with_len}
 use Rattle.std.specs.Str.{bytes_eq}
 use Rattle.std.proofs.lemmas.List.{length-map}
@@ -24,22 +25,25 @@ use Rattle.boc_greedy.proofs.Curving.{one_greedy_end}
 use Rattle.boc_whatif.proofs.Changing.{changed_rows}
 use Rattle.boc_names.specs.declared.names.Names.{Names}
 use Rattle.boc_names.specs.Names.{CallTheSame, Text, text_at, texts_of}
-use Rattle.boc_why.specs.Causes.{without_all}
+use Rattle.boc_why.specs.Causes.{AreSpawnedEarly, without_all}
 use Rattle.boc_why.specs.WhySteps.{AreSharesByDef}
+use Rattle.boc_why.proofs.EarlySpawns.{one_early}
 use Rattle.boc_why.proofs.OneCause.{one_edited}
 use Rattle.boc_why.proofs.OneWhy.{one_list_by_def}
 use Rattle.boc_why_report.specs.declared.short.Outcome.{Outcome}
 use Rattle.boc_why_report.specs.ShortTexts.{ComeToTheSame}
 use Rattle.boc_why_report.proofs.OneText.{one_short_text}
+use Rattle.boc_words.specs.declared.asked.AskedChanges.{AskedChanges}
 use Rattle.boc_words.specs.declared.asked.AskedCown.{AskedCown}
 use Rattle.boc_words.specs.declared.asked.AskedCown.TheVariants as asked_cowns
 use Rattle.boc_words.specs.declared.asked.AskedEdit.{AskedEdit}
 use Rattle.boc_words.specs.declared.asked.AskedEdit.TheVariants as asked_edits
 use Rattle.boc_words.specs.declared.asked.WhatIfFile.{WhatIfFile}
-use Rattle.boc_commands.specs.Asked.{all_cowns, all_edits, costs, cowns_of, edits_of, first_some, named, starred}
+use Rattle.boc_commands.specs.Asked.{AreMadeEarly, all_cowns, all_edits, costs, cowns_of, edits_of, first_some, marks_of, named, starred}
 use Rattle.boc_words.specs.declared.asked.AskedPlans.{AskedPlans}
 use Rattle.boc_commands.specs.NamedRuns.{IsNamedRecord}
 use Rattle.boc_commands.specs.WhatIfAnswers.{AreChangedSo, IsAskedEnd, IsOutcome, IsReportAfter, IsShortReport, IsWhatIfAnswer, IsWhatIfReport}
+use Rattle.boc_commands.proofs.EarlyRows.{rows_early}
 use Rattle.boc_commands.proofs.OneAnswer.{one_report, rows_are}
 use Rattle.boc_commands.proofs.OneNaming.{is_text_of, one_named_record}
 
@@ -65,6 +69,10 @@ module _ (a b : Names) (same : CallTheSame a b) where
   same_cowns [] = refl
   same_cowns (x ∷ asked) = ap₂ ◌++◌ (cowns_meant x) (same_cowns asked)
 
+  same_marks : (name : Text) → marks_of a name ≡ marks_of b name
+  same_marks name = λ i. map (λ row. from_bool (bytes_eq (text_at (same.def_names i) (slice_index (same.defs i) row)) name))
+      (range_with_len 0 (length (same.defs i)))
+
   edits_meant : (asked : AskedEdit) → edits_of a asked ≡ edits_of b asked
   edits_meant (asked_edits.Row edit) = refl
   edits_meant (asked_edits.Def name part) = λ i. map (costs part) (filter (λ row. bytes_eq (text_at (same.def_names i) (slice_index (same.defs i) row))
@@ -87,19 +95,44 @@ rows_left : (cowns : List ℕ) (rows : List Row) → IsRows rows → IsRows (wit
 rows_left [] rows hr = hr
 rows_left (cown ∷ cowns) rows hr = rows_left cowns (without cown rows) (rows_without cown rows hr)
 
-module _ (rows : List Row) (names others : Names) (same : CallTheSame names others) (cowns : List AskedCown) (edits : List AskedEdit)
-    (after other : List Row) (a : AreChangedSo names cowns edits rows after) (b : AreChangedSo others cowns edits rows other) where
+-- rows of which those of some defs spawn early are one list
+one_made : (names others : Names) → CallTheSame names others → (rows : List Row) (defs : List (String Global)) (after other : List Row)
+    → AreMadeEarly names rows defs after → AreMadeEarly others rows defs other → after ≡ other
+one_made names others same rows [] after other a b = a ∙ sym b
+one_made names others same rows (def ∷ defs) after other a b =
+    let marks : List ℕ = marks_of others (string_bytes def) in
+    let next : a.0 ≡ b.0 = one_early rows marks 1 a.0 b.0
+    (subst (λ (list : List ℕ). AreSpawnedEarly rows list 1 a.0) (same_marks names others same (string_bytes def)) a.1) b.1 in
+    one_made names others same b.0 defs after other (subst (λ (list : List Row). AreMadeEarly names list defs after) next a.2) b.2
+
+-- and are rows
+rows_made : (names : Names) (rows : List Row) → IsRows rows → (defs : List (String Global)) (after : List Row) → AreMadeEarly names rows defs after
+    → IsRows after
+rows_made names rows hr [] after made = rw made hr
+rows_made names rows hr (def ∷ defs) after made =
+    rows_made names made.0 (rows_early rows (marks_of names (string_bytes def)) 1 made.0 made.1 hr) defs after made.2
+
+module _ (rows : List Row) (names others : Names) (same : CallTheSame names others) (changes : AskedChanges)
+    (after other : List Row) (a : AreChangedSo names changes rows after) (b : AreChangedSo others changes rows other) where
   abbrev left : List Row
-  left = without_all (all_cowns others cowns) rows
+  left = without_all (all_cowns others changes.cowns.items) rows
+
+  one_spawned : a.spawned ≡ b.spawned
+  one_spawned = one_made names others same left changes.early.items a.spawned b.spawned
+      (subst (λ (list : List ℕ). AreMadeEarly names (without_all list rows) changes.early.items a.spawned)
+      (same_cowns names others same changes.cowns.items) a.early.made)
+      b.early.made
 
   one_change : after ≡ other
-  one_change = one_edited left (all_edits others edits) after other
-      (subst (λ (list : List Edit). AreEdited left list after) (same_edits names others same edits)
-      (subst (λ (list : List ℕ). AreEdited (without_all list rows) (all_edits names edits) after) (same_cowns names others same cowns) a.asked_for.edited))
+  one_change = one_edited b.spawned (all_edits others changes.edits.items) after other
+      (subst (λ (list : List Edit). AreEdited b.spawned list after) (same_edits names others same changes.edits.items)
+      (subst (λ (list : List Row). AreEdited list (all_edits names changes.edits.items) after) one_spawned a.asked_for.edited))
       b.asked_for.edited
 
   rows_changed : IsRows rows → IsRows other
-  rows_changed hr = rows_after left (rows_left (all_cowns others cowns) rows hr) (all_edits others edits) other b.asked_for.edited
+  rows_changed hr = rows_after b.spawned
+      (rows_made others left (rows_left (all_cowns others changes.cowns.items) rows hr) changes.early.items b.spawned b.early.made)
+      (all_edits others changes.edits.items) other b.asked_for.edited
 
 -- ---- what is told of them
 
@@ -146,23 +179,23 @@ one_report_after true names others same sharing plans before after hb ha output 
     one_short_report names others same sharing plans.workers before after hb ha output other a b
 
 -- rows that are called alike have one report after what is asked for
-pub one_whatif_report : (names others : Names) → CallTheSame names others → (cowns : List AskedCown) (edits : List AskedEdit) (sharing : Sharing)
+pub one_whatif_report : (names others : Names) → CallTheSame names others → (changes : AskedChanges) (sharing : Sharing)
     (plans : AskedPlans) (short : Bool) (rows : List Row) → IsRows rows → (output other : List ℕ)
-    → IsWhatIfReport names cowns edits sharing plans short rows output → IsWhatIfReport others cowns edits sharing plans short rows other → output ≡ other
-one_whatif_report names others same cowns edits sharing plans short rows hr output other a b =
-    let after : a.after ≡ b.after = one_change rows names others same cowns edits a.after b.after a.changed b.changed in
+    → IsWhatIfReport names changes sharing plans short rows output → IsWhatIfReport others changes sharing plans short rows other → output ≡ other
+one_whatif_report names others same changes sharing plans short rows hr output other a b =
+    let after : a.after ≡ b.after = one_change rows names others same changes a.after b.after a.changed b.changed in
     one_report_after short names others same sharing plans rows b.after hr
-    (rows_changed rows names others same cowns edits a.after b.after a.changed b.changed hr) output other
+    (rows_changed rows names others same changes a.after b.after a.changed b.changed hr) output other
     (subst (λ (list : List Row). IsReportAfter short names sharing plans rows list output) after a.told) b.told
 
-pub one_whatif_answer : (file : Option WhatIfFile) (bytes : List ℕ) (cowns : List AskedCown) (edits : List AskedEdit) (sharing : Sharing)
-    (plans : AskedPlans) (short : Bool) (input output other : List ℕ) → IsWhatIfAnswer file bytes cowns edits sharing plans short input output
-    → IsWhatIfAnswer file bytes cowns edits sharing plans short input other → output ≡ other
-one_whatif_answer file bytes cowns edits sharing plans short input output other a b =
+pub one_whatif_answer : (file : Option WhatIfFile) (bytes : List ℕ) (changes : AskedChanges) (sharing : Sharing)
+    (plans : AskedPlans) (short : Bool) (input output other : List ℕ) → IsWhatIfAnswer file bytes changes sharing plans short input output
+    → IsWhatIfAnswer file bytes changes sharing plans short input other → output ≡ other
+one_whatif_answer file bytes changes sharing plans short input output other a b =
     let is : IsTextOf input b.recorded = is_text_of file bytes input b.recorded b.names b.named in
     let recorded : a.recorded ≡ b.recorded =
     one_record input a.recorded b.recorded (is_text_of file bytes input a.recorded a.names a.named) is in
     let called : CallTheSame a.names b.names = one_named_record file bytes input b.recorded a.names b.names
     (subst (λ (r : Recorded). IsNamedRecord file bytes input r a.names) recorded a.named) b.named in
-    one_whatif_report a.names b.names called cowns edits sharing plans short b.recorded.rows (rows_are b.recorded is.record_is) output other
-    (subst (λ (r : Recorded). IsWhatIfReport a.names cowns edits sharing plans short r.rows output) recorded a.report) b.report
+    one_whatif_report a.names b.names called changes sharing plans short b.recorded.rows (rows_are b.recorded is.record_is) output other
+    (subst (λ (r : Recorded). IsWhatIfReport a.names changes sharing plans short r.rows output) recorded a.report) b.report

@@ -13,9 +13,8 @@ use Rattle.boc_plans.specs.declared.sharing.Sharing.{Sharing}
 use Rattle.boc_plans.specs.declared.sweep.Sweep.{Sweep}
 use Rattle.boc_plans.specs.declared.sweep.Sweep.TheVariants.{Ticks as TicksOf, Cowns, Spawns}
 use Rattle.boc_plans.proofs.Seeing.{rows_seen}
-use Rattle.boc_words.specs.declared.asked.AskedCown.{AskedCown}
+use Rattle.boc_words.specs.declared.asked.AskedChanges.{AskedChanges}
 use Rattle.boc_words.specs.declared.asked.AskedCurve.{AskedCurve}
-use Rattle.boc_words.specs.declared.asked.AskedEdit.{AskedEdit}
 use Rattle.boc_words.specs.declared.asked.AskedPlans.{AskedPlans}
 use Rattle.boc_words.specs.declared.asked.AskedProfile.{AskedProfile}
 use Rattle.boc_words.specs.declared.asked.AskedSweep.{AskedSweep}
@@ -174,24 +173,24 @@ one_sweep_of_record asked supplied file input output other recorded is (inr a) b
 
 -- ---- changes
 
-pub one_program_whatif : (schedule : Schedule) (supplied : Supplied) (file : List ℕ) (cowns : List AskedCown) (edits : List AskedEdit) (sharing : Sharing)
+pub one_program_whatif : (schedule : Schedule) (supplied : Supplied) (file : List ℕ) (changes : AskedChanges) (sharing : Sharing)
     (plans : AskedPlans) (short : Bool) (input output other : List ℕ)
-    (one : IsProgramWhatIf schedule supplied file cowns edits sharing plans short input output)
-    (another : IsProgramWhatIf schedule supplied file cowns edits sharing plans short input other) → one.recorded ≡ another.recorded → output ≡ other
-one_program_whatif schedule supplied file cowns edits sharing plans short input output other a b same =
+    (one : IsProgramWhatIf schedule supplied file changes sharing plans short input output)
+    (another : IsProgramWhatIf schedule supplied file changes sharing plans short input other) → one.recorded ≡ another.recorded → output ≡ other
+one_program_whatif schedule supplied file changes sharing plans short input output other a b same =
     one_whatif_report a.names b.names (one_program_named schedule supplied file input b.recorded a.names b.names
     (subst (λ (r : Recorded). IsProgramRun schedule supplied file input r a.names) same a.run) b.run)
-    cowns edits sharing plans short b.recorded.rows
+    changes sharing plans short b.recorded.rows
     (rows_are b.recorded (program_is_record schedule supplied file input b.recorded b.names b.run)) output other
-    (subst (λ (r : Recorded). IsWhatIfReport a.names cowns edits sharing plans short r.rows output) same a.report) b.report
+    (subst (λ (r : Recorded). IsWhatIfReport a.names changes sharing plans short r.rows output) same a.report) b.report
 
-pub one_whatif_of_record : (schedule : Schedule) (file : Option WhatIfFile) (bytes : List ℕ) (cowns : List AskedCown) (edits : List AskedEdit)
+pub one_whatif_of_record : (schedule : Schedule) (file : Option WhatIfFile) (bytes : List ℕ) (changes : AskedChanges)
     (sharing : Sharing) (plans : AskedPlans) (short : Bool) (input output other : List ℕ) (recorded : Recorded) → IsTextOf input recorded
-    → AnswersWhatIf schedule file bytes cowns edits sharing plans short input output
-    → AnswersWhatIf schedule file bytes cowns edits sharing plans short input other → output ≡ other
-one_whatif_of_record schedule file bytes cowns edits sharing plans short input output other recorded is (inl a) (inl b) =
-    one_whatif_answer file bytes cowns edits sharing plans short input output other a b
-one_whatif_of_record schedule file bytes cowns edits sharing plans short input output other recorded is (inl a) (inr b) =
+    → AnswersWhatIf schedule file bytes changes sharing plans short input output
+    → AnswersWhatIf schedule file bytes changes sharing plans short input other → output ≡ other
+one_whatif_of_record schedule file bytes changes sharing plans short input output other recorded is (inl a) (inl b) =
+    one_whatif_answer file bytes changes sharing plans short input output other a b
+one_whatif_of_record schedule file bytes changes sharing plans short input output other recorded is (inl a) (inr b) =
     absurd (no_run_of_record schedule (supplied_to file) bytes input recorded b.recorded b.names is b.run)
-one_whatif_of_record schedule file bytes cowns edits sharing plans short input output other recorded is (inr a) b =
+one_whatif_of_record schedule file bytes changes sharing plans short input output other recorded is (inr a) b =
     absurd (no_run_of_record schedule (supplied_to file) bytes input recorded a.recorded a.names is a.run)

@@ -108,6 +108,7 @@ unnamed_as always_on schedule supplied file read text (Err f) fault is reads h w
     go (faults.Input (inputs.Program r)) w = w
     go (faults.Input (inputs.Record r)) w = w
     go (faults.Input (inputs.Cown n)) w = w
+    go (faults.Input (inputs.Early n)) w = w
     go (faults.Input (inputs.Edit n e)) w = w
     go (faults.Input (inputs.Def n)) w = w
     go (faults.Input (inputs.Stray r)) w = w

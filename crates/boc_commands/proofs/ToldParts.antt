@@ -11,9 +11,8 @@ use Rattle.boc_plans.specs.Plans.{work_of}
 use Rattle.boc_greedy.specs.Curves.{IsCurve}
 use Rattle.boc_greedy.specs.declared.points.CurvePoint.{CurvePoint}
 use Rattle.boc_report.specs.Texts.{curve_text}
-use Rattle.boc_words.specs.declared.asked.AskedCown.{AskedCown}
+use Rattle.boc_words.specs.declared.asked.AskedChanges.{AskedChanges}
 use Rattle.boc_words.specs.declared.asked.AskedCurve.{AskedCurve}
-use Rattle.boc_words.specs.declared.asked.AskedEdit.{AskedEdit}
 use Rattle.boc_words.specs.declared.asked.AskedPlans.{AskedPlans}
 use Rattle.boc_words.specs.declared.asked.AskedProfile.{AskedProfile}
 use Rattle.boc_words.specs.declared.asked.AskedSweep.{AskedSweep}
@@ -93,35 +92,35 @@ program_sweep asked supplied file input run named output has is told = record {
 
 -- ---- changes
 
-pub program_whatif : (schedule : Schedule) (supplied : Supplied) (file : List ℕ) (cowns : List AskedCown) (edits : List AskedEdit) (sharing : Sharing)
+pub program_whatif : (schedule : Schedule) (supplied : Supplied) (file : List ℕ) (changes : AskedChanges) (sharing : Sharing)
     (plans : AskedPlans) (short : Bool) (input : List ℕ) (run : NamedRun) (output : List ℕ) → HasRun (IsProgramRun schedule supplied file input) run
-    → IsWhatIfReport run.names cowns edits sharing plans short run.rows output
-    → IsProgramWhatIf schedule supplied file cowns edits sharing plans short input output
-program_whatif schedule supplied file cowns edits sharing plans short input run output has told = record {
+    → IsWhatIfReport run.names changes sharing plans short run.rows output
+    → IsProgramWhatIf schedule supplied file changes sharing plans short input output
+program_whatif schedule supplied file changes sharing plans short input run output has told = record {
   recorded = has.recorded;
   names = run.names;
   run = has.named;
-  report = subst (λ (rows : List Row). IsWhatIfReport run.names cowns edits sharing plans short rows output) has.rows_are told;
+  report = subst (λ (rows : List Row). IsWhatIfReport run.names changes sharing plans short rows output) has.rows_are told;
 }
 
 -- what is asked for is refused, of the run of a program
-pub whatif_refused : (always_on : Type 0) (schedule : Schedule) (supplied : Supplied) (file : List ℕ) (cowns : List AskedCown) (edits : List AskedEdit)
+pub whatif_refused : (always_on : Type 0) (schedule : Schedule) (supplied : Supplied) (file : List ℕ) (changes : AskedChanges)
     (IsOfRecord : Fault → Option (List ℕ) → Type 0) (result : Result (Unit {0}) Fault) (before after : Option (List ℕ)) (text : List ℕ) (run : NamedRun)
-    → TakesText before after text → HasRun (IsProgramRun schedule supplied file text) run → RefusesAsked run.names cowns edits run.rows result
-    → RefusesEither IsOfRecord (IsOfWhatIf always_on schedule supplied file cowns edits) result before after
-whatif_refused always_on schedule supplied file cowns edits IsOfRecord (Ok done) before after text run takes has wrong = tt
-whatif_refused always_on schedule supplied file cowns edits IsOfRecord (Err fault) before after text run takes has wrong = go fault wrong
+    → TakesText before after text → HasRun (IsProgramRun schedule supplied file text) run → RefusesAsked run.names changes run.rows result
+    → RefusesEither IsOfRecord (IsOfWhatIf always_on schedule supplied file changes) result before after
+whatif_refused always_on schedule supplied file changes IsOfRecord (Ok done) before after text run takes has wrong = tt
+whatif_refused always_on schedule supplied file changes IsOfRecord (Err fault) before after text run takes has wrong = go fault wrong
   where
-    of : (x : Fault) → IsOfAsked run.names cowns edits run.rows x → IsOfWhatIf always_on schedule supplied file cowns edits text x
+    of : (x : Fault) → IsOfAsked run.names changes run.rows x → IsOfWhatIf always_on schedule supplied file changes text x
     of x w = inr (record {
       recorded = has.recorded;
       names = run.names;
       run = has.named;
-      unfit = subst (λ (rows : List Row). IsOfAsked run.names cowns edits rows x) has.rows_are w;
+      unfit = subst (λ (rows : List Row). IsOfAsked run.names changes rows x) has.rows_are w;
     })
 
-    go : (x : Fault) → RefusesAsked {A = Unit {0}} run.names cowns edits run.rows (Err x)
-        → RefusesEither {A = Unit {0}} IsOfRecord (IsOfWhatIf always_on schedule supplied file cowns edits) (Err x) before after
+    go : (x : Fault) → RefusesAsked {A = Unit {0}} run.names changes run.rows (Err x)
+        → RefusesEither {A = Unit {0}} IsOfRecord (IsOfWhatIf always_on schedule supplied file changes) (Err x) before after
     go (faults.Means w) w' = tt
     go (faults.Words r) w = inr (text, takes, of (faults.Words r) w)
     go (faults.Input r) w = inr (text, takes, of (faults.Input r) w)

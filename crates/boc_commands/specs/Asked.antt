@@ -1,7 +1,9 @@
 -- What the words of a command line mean in the names of a run.
-use Rattle.std.specs.Prelude.{◌≡◌, ◌≢◌, ◌+◌, ◌<◌, ◌≤◌, ◌&&◌, ◌||◌, ℕ, Bool, true, false, not, List, [], ◌∷◌, ◌++◌, length, map, filter, flat_map}
-use Rattle.std.specs.Prelude.{take, sum, All, cond, nat_lt, Some, slice_get, slice_index, codes, string_bytes}
+use Rattle.std.specs.Prelude.{◌≡◌, ◌≢◌, ◌+◌, ◌<◌, ◌≤◌, ◌==◌, ◌&&◌, ◌||◌, ℕ, Bool, true, false, not, List, [], ◌∷◌, ◌++◌, length, map, filter, flat_map}
+use Rattle.std.specs.Prelude.{take, sum, All, cond, nat_lt, Some, String, slice_get, slice_index, codes, string_bytes}
+use Rattle.std.specs.Global.{Global}
 use Rattle.std.specs.List.{list_all, range_with_len}
+use Rattle.std.specs.Int.{from_bool}
 use Rattle.std.specs.Str.{bytes_eq}
 use Rattle.boc_runs.specs.declared.rows.Row.{Row}
 use Rattle.boc_plans.specs.declared.edit.Edit.{Edit}
@@ -11,6 +13,8 @@ use Rattle.boc_plans.specs.Edits.{AreEdited, IsEditFault}
 use Rattle.boc_plans.specs.Fractions.{Fraction}
 use Rattle.boc_names.specs.declared.names.Names.{Names}
 use Rattle.boc_names.specs.Names.{Text, text_at, texts_of}
+use Rattle.boc_why.specs.Causes.{AreSpawnedEarly}
+use Rattle.boc_words.specs.declared.asked.AskedChanges.{AskedChanges}
 use Rattle.boc_words.specs.declared.asked.AskedCown.{AskedCown}
 use Rattle.boc_words.specs.declared.asked.AskedCown.TheVariants as cowns
 use Rattle.boc_words.specs.declared.asked.AskedEdit.{AskedEdit}
@@ -57,11 +61,32 @@ cowns_of names (cowns.Name name) = called names (string_bytes name)
 abbrev pub all_cowns : Names → List AskedCown → List ℕ
 all_cowns names asked = flat_map (cowns_of names) asked
 
--- ---- edits
+-- ---- defs
 
 -- a row is of the def with this name
 abbrev pub is_of : Names → Text → ℕ → Bool
 is_of names name row = bytes_eq (text_at (texts_of names.def_names.items) (slice_index names.defs.items row)) name
+
+-- the rows of the def with this name, rising
+abbrev pub rows_of : Names → Text → List ℕ
+rows_of names name = filter (is_of names name) (range_with_len 0 (length names.defs.items))
+
+-- for each row 1 where it is of the def with this name, and else 0
+abbrev pub marks_of : Names → Text → List ℕ
+marks_of names name = map (λ row. from_bool (is_of names name row)) (range_with_len 0 (length names.defs.items))
+
+-- def by def, the rows of each spawn as early as they can, and these are the rows after that
+abbrev pub AreMadeEarly : Names → List Row → List (String Global) → List Row → Type 0
+AreMadeEarly names rows [] after = after ≡ rows
+AreMadeEarly names rows (def ∷ defs) after =
+    (next : List Row) × AreSpawnedEarly rows (marks_of names (string_bytes def)) 1 next × AreMadeEarly names next defs after
+
+-- each of these defs has a row, and its rows spawn as early as they can
+pub record AreAskedEarly (names : Names) (rows : List Row) (asked : List (String Global)) (after : List Row) : Type 0 where
+  pub known : All (λ def. rows_of names (string_bytes def) ≢ []) asked
+  pub made : AreMadeEarly names rows asked after
+
+-- ---- edits
 
 -- an edit is that of one row, by its number
 abbrev pub is_of_row : AskedEdit → Bool
@@ -69,8 +94,8 @@ is_of_row (edits.Row edit) = true
 is_of_row (edits.Def name part) = false
 
 -- no row is told by a name, in short, and none is meant by one
-abbrev pub names_no_row : Bool → List AskedEdit → Bool
-names_no_row short asked = not short && list_all is_of_row asked
+abbrev pub names_no_row : Bool → AskedChanges → Bool
+names_no_row short changes = not short && (length changes.early.items == 0) && list_all is_of_row changes.edits.items
 
 -- a row is to cost this part of what it did
 abbrev pub costs : Fraction → ℕ → Edit
@@ -79,7 +104,7 @@ costs part row = record { row = row; change = Cost part }
 -- the edits that are meant: that of a row, or one for each row of the def with a name, rising
 abbrev pub edits_of : Names → AskedEdit → List Edit
 edits_of names (edits.Row edit) = edit ∷ []
-edits_of names (edits.Def name part) = map (costs part) (filter (is_of names (string_bytes name)) (range_with_len 0 (length names.defs.items)))
+edits_of names (edits.Def name part) = map (costs part) (rows_of names (string_bytes name))
 
 -- all edits that are meant, those of one asked edit after those of another
 abbrev pub all_edits : Names → List AskedEdit → List Edit
@@ -102,6 +127,12 @@ abbrev pub IsOfCowns : Names → List AskedCown → Fault → Type 0
 IsOfCowns names asked (faults.Input (inputs.Cown number)) = IsFirstUnmeant (cowns_of names) asked number
 IsOfCowns names asked (faults.Means wants.Memory) = Unit {0}
 IsOfCowns names asked _ = ⊥
+
+-- a fault of the defs that are to spawn early: the first that no row is of, or memory was refused
+abbrev pub IsOfEarly : Names → List (String Global) → Fault → Type 0
+IsOfEarly names asked (faults.Input (inputs.Early number)) = IsFirstUnmeant (λ def. rows_of names (string_bytes def)) asked number
+IsOfEarly names asked (faults.Means wants.Memory) = Unit {0}
+IsOfEarly names asked _ = ⊥
 
 -- every asked edit means some, and the rows take all of them, one after the other, and are these after them
 pub record AreAskedFor (names : Names) (rows : List Row) (asked : List AskedEdit) (after : List Row) : Type 0 where

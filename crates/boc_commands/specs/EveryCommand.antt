@@ -37,7 +37,7 @@ abbrev pub file_of : Command → Option (List ℕ)
 file_of (commands.Values record_path quiet) = option_map string_bytes record_path
 file_of (commands.Check program_path) = option_map string_bytes program_path
 file_of (commands.Profile asked record_path) = option_map string_bytes record_path
-file_of (commands.WhatIf schedule cowns edits plans sharing file short) = option_map whatif_path file
+file_of (commands.WhatIf schedule changes plans sharing file short) = option_map whatif_path file
 file_of (commands.Curve asked record_path) = option_map string_bytes record_path
 file_of (commands.Sweep asked file) = option_map run_path file
 file_of (commands.Why asked file) = option_map run_path file
@@ -58,8 +58,8 @@ AnswersCommand (commands.Profile asked record_path) beside notes before after te
     AnswersInput (TellsProfileOf asked (supplied_record record_path) beside notes) before after text
 AnswersCommand (commands.Time schedule plans sharing quiet) beside notes before after text =
     AnswersInput (TellsTime schedule sharing plans quiet notes) before after text
-AnswersCommand (commands.WhatIf schedule cowns edits plans sharing file short) beside notes before after text =
-    AnswersInput (AnswersWhatIf schedule file beside cowns.items edits.items sharing plans short) before after text
+AnswersCommand (commands.WhatIf schedule changes plans sharing file short) beside notes before after text =
+    AnswersInput (AnswersWhatIf schedule file beside changes sharing plans short) before after text
 AnswersCommand (commands.Curve asked record_path) beside notes before after text =
     AnswersInput (IsCurveOf asked (supplied_record record_path) beside) before after text
 AnswersCommand (commands.Sweep asked file) beside notes before after text = AnswersInput (AnswersSweep asked (supplied_by file) beside) before after text
@@ -91,9 +91,9 @@ RefusesCommand always_on (commands.Profile asked record_path) beside result befo
     (IsOfProgramRun always_on asked.schedule (supplied_record record_path) beside) result before after
 RefusesCommand always_on (commands.Time schedule plans sharing quiet) beside result before after =
     RefusesRun always_on schedule result before after
-RefusesCommand always_on (commands.WhatIf schedule cowns edits plans sharing file short) beside result before after =
-    RefusesEither (λ fault bytes. RefusesWhatIf {A = Unit {0}} file beside cowns.items edits.items (Err fault) bytes)
-    (IsOfWhatIf always_on schedule (supplied_to file) beside cowns.items edits.items) result before after
+RefusesCommand always_on (commands.WhatIf schedule changes plans sharing file short) beside result before after =
+    RefusesEither (λ fault bytes. RefusesWhatIf {A = Unit {0}} file beside changes (Err fault) bytes)
+    (IsOfWhatIf always_on schedule (supplied_to file) beside changes) result before after
 RefusesCommand always_on (commands.Curve asked record_path) beside result before after =
     RefusesEither (λ fault bytes. RefusesRecord {A = Unit {0}} (Err fault) bytes)
     (IsOfProgramRun always_on asked.schedule (supplied_record record_path) beside) result before after

@@ -165,14 +165,18 @@ file_line (files.Record r) = numbered (codes "boc: record: line ") r.line (kind_
 file_line (files.Stray r) = numbered (codes "boc: record: line ") r.line (stray_line r.kind)
 file_line (files.Names r) = numbered (codes "boc: names: line ") r.line (names_line r.kind)
 
+-- what is told where no row is of a def
+abbrev pub no_def : List ℕ
+no_def = codes "7 NoDef\n     no row is of this def; names are those of --program FILE or --names FILE"
+
 -- the line of a refused input
 abbrev pub input_line : InputFault → List ℕ
 input_line (inputs.Program r) = numbered (codes "boc: line ") r.line (kind_text r.kind)
 input_line (inputs.Record r) = numbered (codes "boc: line ") r.line (kind_line r.kind)
 input_line (inputs.Cown number) = numbered (codes "boc: without ") number (codes "6 NoCown")
+input_line (inputs.Early number) = numbered (codes "boc: early ") number no_def
 input_line (inputs.Edit number fault) = numbered (codes "boc: edit ") number (edit_line fault)
-input_line (inputs.Def number) =
-    numbered (codes "boc: edit ") number (codes "7 NoDef\n     no row is of this def; names are those of --program FILE or --names FILE")
+input_line (inputs.Def number) = numbered (codes "boc: edit ") number no_def
 input_line (inputs.Stray r) = numbered (codes "boc: line ") r.line (stray_line r.kind)
 input_line (inputs.Beside f) = file_line f
 

@@ -26,7 +26,7 @@ use thiserror::Error;
 pub const MOST_FAULT_LINE: usize = 128;
 
 /// What the program says of a fault in its own words, without the last line feed: one line, or two for a word that is no edit
-/// and for an edit of a def that no row is of.
+/// and for a def that no row is of.
 pub type Line = ArrayString<MOST_FAULT_LINE>;
 
 /// Why a command was refused or failed. Its text is the line for standard error.
@@ -55,6 +55,8 @@ pub enum InputFault {
     Record(RecordFault),
     /// A cown that must be left out, counted from 1, and that the record doesn't have.
     Cown { number: usize },
+    /// A def that must spawn early, counted from 1, and that no row is of.
+    Early { number: usize },
     /// An edit that the rows can't take, counted from 1.
     Edit { number: usize, fault: EditFault },
     /// An edit of a def that no row is of, counted from 1.
@@ -146,6 +148,10 @@ impl Fault {
     }
 }
 
+// What is said of a def that no row is of.
+const NO_DEF: &str =
+    "7 NoDef\n     no row is of this def; names are those of --program FILE or --names FILE";
+
 // Returns the line of a refused input.
 fn input_text(fault: &InputFault) -> Line
     ensures { result.bytes ≡ input_line fault.now }
@@ -156,14 +162,11 @@ fn input_text(fault: &InputFault) -> Line
         }
         InputFault::Record(fault) => numbered("boc: line ", fault.line, fault.kind_text()),
         InputFault::Cown { number } => numbered("boc: without ", *number as u64, "6 NoCown"),
+        InputFault::Early { number } => numbered("boc: early ", *number as u64, NO_DEF),
         InputFault::Edit { number, fault } => {
             numbered("boc: edit ", *number as u64, edit_text(*fault))
         }
-        InputFault::Def { number } => numbered(
-            "boc: edit ",
-            *number as u64,
-            "7 NoDef\n     no row is of this def; names are those of --program FILE or --names FILE",
-        ),
+        InputFault::Def { number } => numbered("boc: edit ", *number as u64, NO_DEF),
         InputFault::Stray(fault) => numbered("boc: line ", fault.line, fault.kind_text()),
         InputFault::Beside(fault) => file_text(fault),
     }

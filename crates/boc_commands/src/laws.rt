@@ -1,9 +1,8 @@
 //! What is promised of every run and of the plans of its rows, and that an input has one answer.
 
 ghost use Rattle.std.specs.Prelude.{◌≡◌, ℕ, List, Option, None, Some, false, slice_get};
-ghost use Rattle.boc_words.specs.declared.asked.AskedCown.{AskedCown};
+ghost use Rattle.boc_words.specs.declared.asked.AskedChanges.{AskedChanges};
 ghost use Rattle.boc_words.specs.declared.asked.AskedDraws.{AskedDraws};
-ghost use Rattle.boc_words.specs.declared.asked.AskedEdit.{AskedEdit};
 ghost use Rattle.boc_words.specs.declared.asked.AskedPlans.{AskedPlans};
 ghost use Rattle.boc_program.specs.declared.program.Program.{Program};
 ghost use Rattle.boc_runs.specs.declared.rows.Row.{Row};
@@ -63,8 +62,8 @@ pub fn input_has_one_answer()
         → output ≡ other }
     ensures profile { (sharing : Sharing) (asked : AskedPlans) (input output other : List ℕ) → IsProfileAnswer sharing asked input output
         → IsProfileAnswer sharing asked input other → output ≡ other }
-    ensures whatif { (cowns : List AskedCown) (edits : List AskedEdit) (sharing : Sharing) (asked : AskedPlans) (bytes input output other : List ℕ)
-        → IsWhatIfAnswer None bytes cowns edits sharing asked false input output → IsWhatIfAnswer None bytes cowns edits sharing asked false input other
+    ensures whatif { (changes : AskedChanges) (sharing : Sharing) (asked : AskedPlans) (bytes input output other : List ℕ)
+        → IsWhatIfAnswer None bytes changes sharing asked false input output → IsWhatIfAnswer None bytes changes sharing asked false input other
         → output ≡ other }
     ensures curve { (sharing : Sharing) (most : ℕ) (input output other : List ℕ) → IsCurveAnswer sharing most input output
         → IsCurveAnswer sharing most input other → output ≡ other }

@@ -5,10 +5,9 @@ ghost use Rattle.std.specs.Global.{Global};
 ghost use Rattle.boc_runs.specs.Records.{Recorded};
 ghost use Rattle.boc_plans.specs.declared.sharing.Sharing.{Sharing};
 ghost use Rattle.boc_record.specs.RecordTexts.{IsTextOf};
-ghost use Rattle.boc_words.specs.declared.asked.AskedCown.{AskedCown};
+ghost use Rattle.boc_words.specs.declared.asked.AskedChanges.{AskedChanges};
 ghost use Rattle.boc_words.specs.declared.asked.AskedCowns.{AskedCowns};
 ghost use Rattle.boc_words.specs.declared.asked.AskedCurve.{AskedCurve};
-ghost use Rattle.boc_words.specs.declared.asked.AskedEdit.{AskedEdit};
 ghost use Rattle.boc_words.specs.declared.asked.AskedPlans.{AskedPlans};
 ghost use Rattle.boc_words.specs.declared.asked.AskedProfile.{AskedProfile};
 ghost use Rattle.boc_words.specs.declared.asked.AskedSweep.{AskedSweep};
@@ -58,9 +57,9 @@ pub fn run_in_a_file_has_one_answer()
 
 /// Proves that what is supposed of a record has one answer of `whatif` at most, at length or in short, with a program, with a file of names, or by numbers.
 pub fn changed_record_has_one_answer()
-    ensures { (file : Option WhatIfFile) (bytes : List ℕ) (cowns : List AskedCown) (edits : List AskedEdit) (sharing : Sharing) (plans : AskedPlans)
-        (short : Bool) (input output other : List ℕ) → IsWhatIfAnswer file bytes cowns edits sharing plans short input output
-        → IsWhatIfAnswer file bytes cowns edits sharing plans short input other → output ≡ other }
+    ensures { (file : Option WhatIfFile) (bytes : List ℕ) (changes : AskedChanges) (sharing : Sharing) (plans : AskedPlans)
+        (short : Bool) (input output other : List ℕ) → IsWhatIfAnswer file bytes changes sharing plans short input output
+        → IsWhatIfAnswer file bytes changes sharing plans short input other → output ≡ other }
 {}
 
 /// Proves that of one run of a program there is one answer at most of `profile`, with one text of notes, and one of `curve`, `sweep` and `whatif`. The threads
@@ -75,10 +74,10 @@ pub fn program_run_has_one_answer()
     ensures sweep { (asked : AskedSweep) (supplied : Supplied) (bytes input output other : List ℕ)
         → (one : IsProgramSweep asked supplied bytes input output) → (another : IsProgramSweep asked supplied bytes input other)
         → one.recorded ≡ another.recorded → output ≡ other }
-    ensures whatif { (schedule : Schedule) (supplied : Supplied) (bytes : List ℕ) (cowns : List AskedCown) (edits : List AskedEdit) (sharing : Sharing)
+    ensures whatif { (schedule : Schedule) (supplied : Supplied) (bytes : List ℕ) (changes : AskedChanges) (sharing : Sharing)
         (plans : AskedPlans) (short : Bool) (input output other : List ℕ)
-        → (one : IsProgramWhatIf schedule supplied bytes cowns edits sharing plans short input output)
-        → (another : IsProgramWhatIf schedule supplied bytes cowns edits sharing plans short input other)
+        → (one : IsProgramWhatIf schedule supplied bytes changes sharing plans short input output)
+        → (another : IsProgramWhatIf schedule supplied bytes changes sharing plans short input other)
         → one.recorded ≡ another.recorded → output ≡ other }
 {}
 
@@ -91,10 +90,10 @@ pub fn program_run_in_a_file_has_one_answer()
         → IsProgramCurve asked Record bytes input other → output ≡ other }
     ensures sweep { (asked : AskedSweep) (bytes input output other : List ℕ) → IsProgramSweep asked Record bytes input output
         → IsProgramSweep asked Record bytes input other → output ≡ other }
-    ensures whatif { (schedule : Schedule) (bytes : List ℕ) (cowns : List AskedCown) (edits : List AskedEdit) (sharing : Sharing)
+    ensures whatif { (schedule : Schedule) (bytes : List ℕ) (changes : AskedChanges) (sharing : Sharing)
         (plans : AskedPlans) (short : Bool) (input output other : List ℕ)
-        → IsProgramWhatIf schedule Record bytes cowns edits sharing plans short input output
-        → IsProgramWhatIf schedule Record bytes cowns edits sharing plans short input other → output ≡ other }
+        → IsProgramWhatIf schedule Record bytes changes sharing plans short input output
+        → IsProgramWhatIf schedule Record bytes changes sharing plans short input other → output ≡ other }
 {}
 
 /// Proves that the text of a record has one answer at most of these commands, whatever file is given with it: it spells no program.
@@ -106,8 +105,8 @@ pub fn record_has_one_answer_of_either()
         → IsCurveOf asked supplied bytes input output → IsCurveOf asked supplied bytes input other → output ≡ other }
     ensures sweep { (asked : AskedSweep) (supplied : Supplied) (bytes input output other : List ℕ) (recorded : Recorded) → IsTextOf input recorded
         → AnswersSweep asked supplied bytes input output → AnswersSweep asked supplied bytes input other → output ≡ other }
-    ensures whatif { (schedule : Schedule) (file : Option WhatIfFile) (bytes : List ℕ) (cowns : List AskedCown) (edits : List AskedEdit)
+    ensures whatif { (schedule : Schedule) (file : Option WhatIfFile) (bytes : List ℕ) (changes : AskedChanges)
         (sharing : Sharing) (plans : AskedPlans) (short : Bool) (input output other : List ℕ) (recorded : Recorded) → IsTextOf input recorded
-        → AnswersWhatIf schedule file bytes cowns edits sharing plans short input output
-        → AnswersWhatIf schedule file bytes cowns edits sharing plans short input other → output ≡ other }
+        → AnswersWhatIf schedule file bytes changes sharing plans short input output
+        → AnswersWhatIf schedule file bytes changes sharing plans short input other → output ≡ other }
 {}

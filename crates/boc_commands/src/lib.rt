@@ -51,7 +51,7 @@ pub use why::why_cmd;
 pub use boc_progress::{Progress, Silent};
 // What the words of a command line ask for.
 pub use boc_words::{
-    AskedCown, AskedCowns, AskedCurve, AskedDraws, AskedEdit, AskedPlans, AskedProfile, AskedSweep,
-    AskedWhy, Command, CommandLine, RunFile, Runners, Runs, Schedule, VERSION, WhatIfFile,
-    WordsFault, not_text, read_words,
+    AskedChanges, AskedCown, AskedCowns, AskedCurve, AskedDraws, AskedEdit, AskedPlans,
+    AskedProfile, AskedSweep, AskedWhy, Command, CommandLine, RunFile, Runners, Runs, Schedule,
+    VERSION, WhatIfFile, WordsFault, not_text, read_words,
 };

@@ -3,7 +3,7 @@
 ghost use Rattle.std.specs.Prelude.{◌≡◌, ◌≢◌, ◌++◌, ◌<◌, ◌≤◌, [], All, filter, length, map, sum, IfOk, MatchResult, OnOk};
 ghost use Rattle.std.specs.List.{range_with_len};
 ghost use Rattle.boc_program.specs.declared.limits.TheConstants.{MOST_COWNS, MOST_ROWS};
-ghost use Rattle.boc_commands.specs.Asked.{all_cowns, called, cowns_of, edits_of, has_name, is_of, costs, named, starred};
+ghost use Rattle.boc_commands.specs.Asked.{all_cowns, called, cowns_of, edits_of, has_name, is_of, costs, marks_of, named, rows_of, starred};
 ghost use Rattle.boc_commands.specs.Asked.{AreMeant, IsOfCowns, IsOwner};
 
 use crate::fault::{Fault, InputFault};
@@ -128,11 +128,23 @@ fn is_of(names: &Names, name: &[u8], row: usize) -> bool
     text_at(&names.def_names, names.defs[row] as usize) == name
 }
 
+/// Returns for each row 1 if it is of the def with this name, and else 0. `AllocError` says that memory was refused.
+pub(crate) fn marks_of(alloc: Global, names: &Names, name: &[u8]) -> Result<Vec<u32>, AllocError>
+    ensures { IfOk result (λ marks. marks.items ≡ marks_of names.now name.now) }
+{
+    let mut marks = Vec::new(alloc);
+    for row in 0..names.defs.len() {
+        let mark = u32::from(is_of(names, name, row));
+        marks.push(mark)?;
+    }
+    Ok(marks)
+}
+
 // Appends an edit for each row of the def with this name to others.
 fn put_def(edits: &mut Vec<Edit>, names: &Names, name: &[u8], part: Part) -> Result<(), AllocError>
     requires { length names.now.defs.items ≤ MOST_ROWS }
     ensures { OnOk result (edits.new.items
-        ≡ edits.old.items ++ map (costs part) (filter (is_of names.now name.now) (range_with_len 0 (length names.now.defs.items)))) }
+        ≡ edits.old.items ++ map (costs part) (rows_of names.now name.now)) }
 {
     for row in 0..names.defs.len() {
         if is_of(names, name, row) {

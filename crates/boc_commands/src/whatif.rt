@@ -1,13 +1,13 @@
 // The command `whatif`.
 
-ghost use Rattle.std.specs.Prelude.{◌≡◌, ◌<◌, ◌≤◌, ℕ, All, Err, IfErr, IfOk, List, MatchResult, None, Ok, length, true};
-ghost use Rattle.std.specs.List.{list_all};
+ghost use Rattle.std.specs.Prelude.{◌≡◌, ◌≢◌, ◌==◌, ◌<◌, ◌≤◌, [], ℕ, All, Err, IfErr, IfOk, List, MatchResult, None, Ok, length, true};
+ghost use Rattle.std.specs.List.{list_all, list_any};
 ghost use Rattle.boc_program.specs.declared.limits.TheConstants.{MOST_COWNS, MOST_ROWS};
 ghost use Rattle.boc_names.specs.declared.names.Names.{Names};
 ghost use Rattle.boc_names.specs.Names.{AreNumbers};
 ghost use Rattle.boc_plans.specs.Seen.{seen};
 ghost use Rattle.boc_record.specs.Reading.{ReadsCounted};
-ghost use Rattle.boc_commands.specs.Asked.{AreAskedFor, IsOfEdits, is_of_row, names_no_row};
+ghost use Rattle.boc_commands.specs.Asked.{AreAskedEarly, AreAskedFor, IsOfEarly, IsOfEdits, is_of_row, names_no_row};
 ghost use Rattle.boc_commands.specs.Commands.{AnswersInput, Leaves, CountsSource, CountsSink, RefusesRecord};
 ghost use Rattle.boc_commands.specs.Faults.{gone_of};
 ghost use Rattle.boc_commands.specs.NamedRuns.{AreFew};
@@ -16,7 +16,7 @@ ghost use Rattle.boc_commands.specs.WhatIfAnswers.{AnswersWhatIf, AreChangedSo, 
 ghost use Rattle.boc_commands.specs.WhatIfAnswers.{IsWhatIfReport, RefusesAsked, RefusesWhatIf};
 
 use crate::fault::{Fault, InputFault};
-use crate::meant::{cowns_meant, edits_meant, owner_of};
+use crate::meant::{cowns_meant, edits_meant, marks_of, owner_of};
 use crate::named_run::{NamedRun, named_record};
 use crate::program_input::{Setting, run_of_program, supplied_to};
 use crate::report::report_after;
@@ -29,9 +29,9 @@ use boc_record::read_counted;
 use boc_runs::rows::Rows;
 use boc_text::{Sink, Source, put_out};
 use boc_whatif::{Unfit, WhatIf};
-use boc_why::{shares_by_def, without_all};
+use boc_why::{shares_by_def, spawn_early, without_all};
 use boc_why_report::{Outcome, short_text};
-use boc_words::{AskedCown, AskedEdit, AskedPlans, Schedule, WhatIfFile};
+use boc_words::{AskedChanges, AskedEdit, AskedPlans, Schedule, WhatIfFile};
 use boc_workers::Gate;
 use std::alloc::{AllocError, Global};
 use std::sync::Wait;
@@ -40,10 +40,8 @@ use std::thread::Threads;
 /// What is supposed of a run, and how it learns what becomes of it.
 #[derive(Drop)]
 pub struct Supposed<'a> {
-    /// The cowns that are left out.
-    pub cowns: &'a [AskedCown],
     /// How rows change.
-    pub edits: &'a [AskedEdit],
+    pub changes: &'a AskedChanges,
     /// Which plans are reported.
     pub plans: AskedPlans,
     /// How rows share cowns.
@@ -55,9 +53,9 @@ pub struct Supposed<'a> {
 impl Supposed<'_> {
     // No row is meant or told by a name.
     fn names_no_row(&self) -> bool
-        ensures { result ≡ names_no_row self.now.short self.now.edits.now }
+        ensures { result ≡ names_no_row self.now.short self.now.changes.now }
     {
-        !self.short && are_of_rows(self.edits)
+        !self.short && self.changes.early.is_empty() && are_of_rows(&self.changes.edits)
     }
 }
 
@@ -78,11 +76,12 @@ fn is_of_row(edit: &AskedEdit) -> bool
     }
 }
 
-/// Leaves cowns out of the rows of a run, so that they impose no order, has its rows change, edit by edit, and writes the report on them, as the command
-/// `profile` does; or, in short, what they take before and after.
+/// Writes the report on the rows of a run after what is supposed of them, as the command `profile` does; or, in short, what they take before and after. First
+/// cowns are left out, so that they impose no order; then the rows of some defs spawn early; then the rows change, edit by edit.
 ///
-/// Of what is requested the first cown is refused that means none of the run, and else the first edit that the rows can't take, as those before it
-/// have made them, or that means none of them. Nothing is written unless the whole answer is ready. After a failing write a beginning of it went out.
+/// Of what is requested the first cown is refused that means none of the run, and else the first def to spawn early that no row is of. Else the first edit
+/// is refused that the rows can't take, as those before it have made them, or that means none of them. Nothing is written unless the whole answer is ready.
+/// After a failing write a beginning of it went out.
 pub fn whatif_report<W: Sink>(
     alloc: Global,
     asked: &Supposed<'_>,
@@ -92,9 +91,9 @@ pub fn whatif_report<W: Sink>(
     requires few { AreFew run.rows run.names }
     requires sink { W.failures sink.old < u64.MAX }
     ensures written { Leaves
-        (IsWhatIfReport run.names asked.now.cowns.now asked.now.edits.now asked.now.sharing asked.now.plans asked.now.short run.rows)
+        (IsWhatIfReport run.names asked.now.changes.now asked.now.sharing asked.now.plans asked.now.short run.rows)
         result (W.written sink.old) (W.written sink.new) }
-    ensures refused { RefusesAsked run.names asked.now.cowns.now asked.now.edits.now run.rows result }
+    ensures refused { RefusesAsked run.names asked.now.changes.now run.rows result }
     ensures source { (count : ℕ) → CountsSource result count count }
     ensures sink { CountsSink result (W.failures sink.old) (W.failures sink.new) }
 {
@@ -118,8 +117,8 @@ fn short_answer(
 ) -> Result<Vec<u8>, Fault>
     requires { AreFew rows names.now }
     ensures { MatchResult result
-        (λ text. IsShortAnswer names.now asked.now.cowns.now asked.now.edits.now asked.now.sharing asked.now.plans.workers rows text.items)
-        (IsOfAsked names.now asked.now.cowns.now asked.now.edits.now rows) }
+        (λ text. IsShortAnswer names.now asked.now.changes.now asked.now.sharing asked.now.plans.workers rows text.items)
+        (IsOfAsked names.now asked.now.changes.now rows) }
 {
     let before = WhatIf::new(alloc, &rows, asked.sharing)?;
     let was = outcome_of(alloc, &names.defs, asked.plans.workers, &before)?;
@@ -170,14 +169,14 @@ fn numbered_report<W: Sink>(
     cowns: u32,
     sink: &mut W,
 ) -> Result<(), Fault>
-    requires nameless { names_no_row asked.now.short asked.now.edits.now ≡ true }
+    requires nameless { names_no_row asked.now.short asked.now.changes.now ≡ true }
     requires few { cowns ≤ MOST_COWNS }
     requires sink { W.failures sink.old < u64.MAX }
     ensures written { (names : Names) → AreNumbers (length rows) cowns names → Leaves
-        (IsWhatIfReport names asked.now.cowns.now asked.now.edits.now asked.now.sharing asked.now.plans asked.now.short rows)
+        (IsWhatIfReport names asked.now.changes.now asked.now.sharing asked.now.plans asked.now.short rows)
         result (W.written sink.old) (W.written sink.new) }
     ensures refused { (names : Names) → AreNumbers (length rows) cowns names
-        → RefusesAsked names asked.now.cowns.now asked.now.edits.now rows result }
+        → RefusesAsked names asked.now.changes.now rows result }
     ensures source { (count : ℕ) → CountsSource result count count }
     ensures sink { CountsSink result (W.failures sink.old) (W.failures sink.new) }
 {
@@ -191,15 +190,41 @@ fn changed(alloc: Global, names: &Names, asked: &Supposed<'_>, rows: Rows) -> Re
     requires families { length names.now.cowns.items ≡ length names.now.families.items }
     requires few_families { length names.now.families.items ≤ MOST_COWNS }
     requires few_defs { length names.now.defs.items ≤ MOST_ROWS }
+    requires defs { asked.now.changes.now.early.items ≢ [] → length names.now.defs.items ≡ length rows }
     ensures rows { MatchResult result
-        (λ after. AreChangedSo names.now asked.now.cowns.now asked.now.edits.now rows after.rows)
-        (IsOfAsked names.now asked.now.cowns.now asked.now.edits.now rows) }
+        (λ after. AreChangedSo names.now asked.now.changes.now rows after.rows)
+        (IsOfAsked names.now asked.now.changes.now rows) }
     ensures sharing { IfOk result (λ after. after.sharing ≡ asked.now.sharing) }
 {
-    let cowns = cowns_meant(alloc, names, asked.cowns)?;
+    let cowns = cowns_meant(alloc, names, &asked.changes.cowns)?;
     let left = without_all(alloc, rows, &cowns)?;
-    let question = WhatIf::of(alloc, left, asked.sharing)?;
-    edited(alloc, names, asked.edits, question)
+    let spawned = spawned_early(alloc, names, &asked.changes.early, left)?;
+    let question = WhatIf::of(alloc, spawned, asked.sharing)?;
+    edited(alloc, names, &asked.changes.edits, question)
+}
+
+// Returns the rows in which those of each of these defs spawn as early as they can.
+fn spawned_early(alloc: Global, names: &Names, asked: &[String], rows: Rows) -> Result<Rows, Fault>
+    requires { asked.now ≢ [] → length names.now.defs.items ≡ length rows }
+    ensures { MatchResult result (AreAskedEarly names.now rows asked.now) (IsOfEarly names.now asked.now) }
+{
+    let mut after = rows;
+    for (index, def) in asked.iter().enumerate() {
+        let marks = marks_of(alloc, names, def.as_bytes())?;
+        if !has_mark(&marks) {
+            let number = index + 1;
+            return Err(Fault::Input(InputFault::Early { number }));
+        }
+        spawn_early(alloc, &mut after, &marks, 1)?;
+    }
+    Ok(after)
+}
+
+// Returns whether one of these marks is 1.
+fn has_mark(marks: &[u32]) -> bool
+    ensures { result ≡ list_any (λ mark. mark == 1) marks.now }
+{
+    marks.iter().any(|mark| *mark == 1)
 }
 
 // Returns the rows of a question with all edits that are asked for.
@@ -249,12 +274,12 @@ fn numbered_whatif<S: Source, W: Sink>(
     source: &mut S,
     sink: &mut W,
 ) -> Result<(), Fault>
-    requires nameless { names_no_row asked.now.short asked.now.edits.now ≡ true }
+    requires nameless { names_no_row asked.now.short asked.now.changes.now ≡ true }
     requires source { S.failures source.old < u64.MAX }
     requires sink { W.failures sink.old < u64.MAX }
-    ensures written { (bytes : List ℕ) → Leaves (AnswersInput (IsWhatIfAnswer None bytes asked.now.cowns.now asked.now.edits.now asked.now.sharing
+    ensures written { (bytes : List ℕ) → Leaves (AnswersInput (IsWhatIfAnswer None bytes asked.now.changes.now asked.now.sharing
         asked.now.plans asked.now.short) (S.remaining source.old) (S.remaining source.new)) result (W.written sink.old) (W.written sink.new) }
-    ensures refused { (bytes : List ℕ) → RefusesWhatIf None bytes asked.now.cowns.now asked.now.edits.now result (S.remaining source.old) }
+    ensures refused { (bytes : List ℕ) → RefusesWhatIf None bytes asked.now.changes.now result (S.remaining source.old) }
     ensures source { CountsSource result (S.failures source.old) (S.failures source.new) }
     ensures sink { CountsSink result (W.failures sink.old) (W.failures sink.new) }
 {
@@ -264,14 +289,15 @@ fn numbered_whatif<S: Source, W: Sink>(
     numbered_report(alloc, asked, rows, cowns, sink)
 }
 
-/// Reads a program, which it runs, or the text of a record, as the first token says, leaves cowns out of the rows of the run, so that they impose no order,
-/// has them change, edit by edit, and writes the report on them, as the command `profile` does; or, in short, what they take before and after. Names
-/// are those of the program, or for a record those that come from a file given with it, if there is one, and else numbers.
+/// Reads a program, which it runs, or the text of a record, as the first token says, and writes the report on the rows of the run after what is supposed of
+/// them. First cowns are left out, so that they impose no order; then the rows of some defs spawn early; then the rows change, edit by edit. The report is that
+/// of the command `profile`; or, in short, it says what the rows take before and after. Names are those of the program, or for a record those that come from a
+/// file given with it, if there is one, and else numbers.
 ///
 /// A program is refused as by `run`; the text of a record at its first faulty line, and only where it is no record's; and a file as its kind is. Of what is
-/// requested the first cown is refused that the run doesn't have, and else the first edit that the rows can't take, as those before it have made them, or
-/// that means none of them. Nothing is written unless the whole answer is ready. After a failing write a beginning of it went out. `progress` receives how
-/// far a draw or the following of a record is.
+/// requested the first cown is refused that the run doesn't have, and else the first def to spawn early that no row is of. Else the first edit is refused that
+/// the rows can't take, as those before it have made them, or that means none of them. Nothing is written unless the whole answer is ready. After a failing
+/// write a beginning of it went out. `progress` receives how far a draw or the following of a record is.
 pub fn whatif_cmd<R: Threads + Wait + Sync, G: Gate, S: TakesBack, W: Sink>(
     rt: &R,
     alloc: Global,
@@ -286,11 +312,11 @@ pub fn whatif_cmd<R: Threads + Wait + Sync, G: Gate, S: TakesBack, W: Sink>(
 ) -> Result<(), Fault>
     requires source { S.failures source.old < u64.MAX }
     requires sink { W.failures sink.old < u64.MAX }
-    ensures written { Leaves (AnswersInput (AnswersWhatIf schedule file.now bytes.items asked.now.cowns.now asked.now.edits.now asked.now.sharing
+    ensures written { Leaves (AnswersInput (AnswersWhatIf schedule file.now bytes.items asked.now.changes.now asked.now.sharing
         asked.now.plans asked.now.short) (S.remaining source.old) (S.remaining source.new)) result (W.written sink.old) (W.written sink.new) }
     ensures refused { RefusesEither
-        (λ fault before. RefusesWhatIf {A = Unit {0}} file.now bytes.items asked.now.cowns.now asked.now.edits.now (Err fault) before)
-        (IsOfWhatIf G.always_on schedule (supplied_to file.now) bytes.items asked.now.cowns.now asked.now.edits.now) result
+        (λ fault before. RefusesWhatIf {A = Unit {0}} file.now bytes.items asked.now.changes.now (Err fault) before)
+        (IsOfWhatIf G.always_on schedule (supplied_to file.now) bytes.items asked.now.changes.now) result
         (S.remaining source.old) (S.remaining source.new) }
     ensures source { CountsSource result (S.failures source.old) (S.failures source.new) }
     ensures sink { CountsSink result (W.failures sink.old) (W.failures sink.new) }
@@ -320,9 +346,9 @@ fn record_whatif<S: Source, W: Sink>(
 ) -> Result<(), Fault>
     requires source { S.failures source.old < u64.MAX }
     requires sink { W.failures sink.old < u64.MAX }
-    ensures written { Leaves (AnswersInput (IsWhatIfAnswer file.now bytes.now asked.now.cowns.now asked.now.edits.now asked.now.sharing asked.now.plans
+    ensures written { Leaves (AnswersInput (IsWhatIfAnswer file.now bytes.now asked.now.changes.now asked.now.sharing asked.now.plans
         asked.now.short) (S.remaining source.old) (S.remaining source.new)) result (W.written sink.old) (W.written sink.new) }
-    ensures refused { RefusesWhatIf file.now bytes.now asked.now.cowns.now asked.now.edits.now result (S.remaining source.old) }
+    ensures refused { RefusesWhatIf file.now bytes.now asked.now.changes.now result (S.remaining source.old) }
     ensures source { CountsSource result (S.failures source.old) (S.failures source.new) }
     ensures sink { CountsSink result (W.failures sink.old) (W.failures sink.new) }
 {

@@ -71,7 +71,8 @@ fn edits_of(alloc: Global, names: &Names, edits: &[Asked]) -> Result<Vec<Edit>, 
     Ok(made)
 }
 
-/// Returns what is reported of an edit that the rows of a program's run can't take, whose word this is. The program doesn't say which rows these are.
+/// Returns what is reported of an edit that the rows of a program's run can't take, or those of a record with other spawns. Its word is this. The input doesn't
+/// say which rows these are.
 pub fn explain_edit_of_run(
     alloc: Global,
     word: &str,

@@ -64,9 +64,10 @@ pub fn explain_input(
         ),
         InputFault::Beside(FileFault::Stray(fault)) => explain_stray(alloc, beside, input, fault),
         InputFault::Beside(FileFault::Names(fault)) => explain_names(alloc, beside, input, fault),
-        InputFault::Cown { .. } | InputFault::Edit { .. } | InputFault::Def { .. } => Ok(
-            String::new(alloc),
-        ),
+        InputFault::Cown { .. }
+        | InputFault::Early { .. }
+        | InputFault::Edit { .. }
+        | InputFault::Def { .. } => Ok(String::new(alloc)),
     }
 }
 

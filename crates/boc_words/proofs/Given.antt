@@ -13,7 +13,7 @@ use Rattle.clap.specs.Words.{Row}
 use Rattle.boc_words.specs.Commands.{IsNumberOf, NumberOption}
 use Rattle.boc_words.specs.declared.asked.AskedCown.{AskedCown}
 use Rattle.boc_words.specs.declared.asked.AskedEdit.{AskedEdit}
-use Rattle.boc_words.specs.EditWords.{IsEditWord, IsWritable, edit_word}
+use Rattle.boc_words.specs.EditWords.{IsEditWord, IsWritable}
 use Rattle.boc_words.specs.Words.{HasNoNumber, IsCownText, IsFirstMisspelt, IsGiven, IsPathOf, values_at}
 
 -- the texts behind what was found, or none
@@ -52,15 +52,12 @@ pub texts_next : (words : List (Bor (List ℕ))) (i : ℕ) (d : Bor (List ℕ)) 
     → map (λ t. t.now) (take (i + 1) words) ≡ map (λ t. t.now) (take i words) ++ ((get_or words i d).now ∷ [])
 texts_next words i d h = ap (λ n. map (λ t. t.now) (take n words)) (add_one i) ∙ texts_more words i d h
 
--- the texts of the edits, with one more
-edits_more : (edits : List AskedEdit) (edit : AskedEdit) → map edit_word (edits ++ (edit ∷ [])) ≡ map edit_word edits ++ (edit_word edit ∷ [])
-edits_more edits edit = map-append edit_word edits (edit ∷ [])
-
-pub taken_next : (words : List (Bor (List ℕ))) (i : ℕ) (d : Bor (List ℕ)) (edits after : List AskedEdit) (edit : AskedEdit) → i < length words
-    → map edit_word edits ≡ map (λ t. t.now) (take i words) → after ≡ edits ++ (edit ∷ []) → (get_or words i d).now ≡ edit_word edit
-    → map edit_word after ≡ map (λ t. t.now) (take (i + 1) words)
-taken_next words i d edits after edit h taken is word =
-    ap (map edit_word) is ∙ edits_more edits edit ∙ ap (λ l. l ++ (edit_word edit ∷ [])) taken
+-- the words of what was read, with one more
+pub taken_next : {A : Type 0} (word_of : A → List ℕ) (words : List (Bor (List ℕ))) (i : ℕ) (d : Bor (List ℕ)) (all after : List A) (one : A)
+    → i < length words → map word_of all ≡ map (λ t. t.now) (take i words) → after ≡ all ++ (one ∷ []) → (get_or words i d).now ≡ word_of one
+    → map word_of after ≡ map (λ t. t.now) (take (i + 1) words)
+taken_next word_of words i d all after one h taken is word =
+    ap (map word_of) is ∙ map-append word_of all (one ∷ []) ∙ ap (λ l. l ++ (word_of one ∷ [])) taken
     ∙ ap (λ w. map (λ t. t.now) (take i words) ++ (w ∷ [])) (sym word) ∙ sym (texts_next words i d h)
 
 -- and each can be written

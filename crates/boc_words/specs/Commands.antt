@@ -99,6 +99,10 @@ no_plan_flag = flag (codes "no-plan")
 abbrev pub without_option : Argument
 without_option = repeated (codes "without")
 
+-- `--early DEF`, as often as one likes
+abbrev pub early_option : Argument
+early_option = repeated (codes "early")
+
 -- `--short`, by which the numbers before and after are told in place of a report
 abbrev pub short_flag : Argument
 short_flag = flag (codes "short")
@@ -144,7 +148,7 @@ signature_of kinds.Time = (
 signature_of kinds.WhatIf = (
   codes "whatif",
   number runners_option ∷ number seed_option ∷ number depth_option ∷ timed_flag ∷ number workers_option ∷ sharing_flag ∷ without_option
-      ∷ repeated record_file ∷ repeated program_file ∷ repeated names_file ∷ short_flag ∷ no_plan_flag ∷ edits_operands ∷ [],
+      ∷ early_option ∷ repeated record_file ∷ repeated program_file ∷ repeated names_file ∷ short_flag ∷ no_plan_flag ∷ edits_operands ∷ [],
 )
 signature_of kinds.Curve = (
   codes "curve",

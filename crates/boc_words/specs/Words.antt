@@ -28,6 +28,7 @@ use Rattle.boc_words.specs.Commands.{Argument, IsNumberOf, NumberOption, command
 use Rattle.boc_words.specs.Commands.{best_option, depth_option, files_of, names_file, program_file, record_file, runners_option, runs_option, seed_option}
 use Rattle.boc_words.specs.Commands.{then_option, top_option, workers_option}
 use Rattle.boc_words.specs.EditWords.{IsEditWord, IsWritable, edit_word, is_edit}
+use Rattle.boc_words.specs.declared.asked.AskedChanges.{AskedChanges}
 use Rattle.boc_words.specs.declared.asked.AskedCown.{AskedCown}
 use Rattle.boc_words.specs.declared.asked.AskedCown.TheVariants as cowns
 use Rattle.boc_words.specs.declared.asked.AskedCowns.{AskedCowns}
@@ -179,6 +180,10 @@ IsCownText text (cowns.Name name) = (string_bytes name ≡ text) × ((number : �
 abbrev pub AreCowns : List Row → List AskedCown → Type 0
 AreCowns rows cowns = AllZip IsCownText (values_at rows (codes "without")) cowns
 
+-- the texts given to `--early` are these names of defs, in their order
+abbrev pub AreEarlyDefs : List Row → List (String Global) → Type 0
+AreEarlyDefs rows defs = values_at rows (codes "early") ≡ map string_bytes defs
+
 -- there is no such text, or it is this path
 abbrev pub IsPathOf : List Text → Option (String Global) → Type 0
 IsPathOf texts None = texts ≡ []
@@ -289,6 +294,10 @@ pub record AreEditsOf (words : List Text) (edits : List AskedEdit) : Type 0 wher
 abbrev pub AreEdits : List Row → List AskedEdit → Type 0
 AreEdits rows edits = AreEditsOf (edit_words rows) edits
 
+-- this is to change: cowns are left out, defs spawn early, and these edits are made
+abbrev pub AreChanges : List Row → AskedChanges → Type 0
+AreChanges rows changes = AreCowns rows changes.cowns.items × AreEarlyDefs rows changes.early.items × AreEdits rows changes.edits.items
+
 -- of these words the one with this number, counted from 1, is the first that is no edit
 pub record IsFirstMisspelt (words : List (List ℕ)) (number : ℕ) : Type 0 where
   pub before : List (List ℕ)
@@ -386,9 +395,9 @@ Asks kind rows (commands.Run schedule quiet) = (kind ≡ called.Run) × IsSchedu
 Asks kind rows (commands.Profile asked record_path) = (kind ≡ called.Profile) × AsksProfile rows asked × GivesFile rows record_file record_path
 Asks kind rows (commands.Time schedule plans sharing quiet) =
     (kind ≡ called.Time) × IsSchedule rows schedule × ArePlans rows plans × AreShared rows sharing × IsQuiet rows quiet
-Asks kind rows (commands.WhatIf schedule cowns edits plans sharing file short) =
-    (kind ≡ called.WhatIf) × IsSchedule rows schedule × AreCowns rows cowns.items × AreEdits rows edits.items × ArePlans rows plans
-    × AreShared rows sharing × IsWhatIfFile rows file × IsShort rows short
+Asks kind rows (commands.WhatIf schedule changes plans sharing file short) =
+    (kind ≡ called.WhatIf) × IsSchedule rows schedule × AreChanges rows changes × ArePlans rows plans × AreShared rows sharing × IsWhatIfFile rows file
+    × IsShort rows short
 Asks kind rows (commands.Curve asked record_path) = (kind ≡ called.Curve) × AsksCurve rows asked × GivesFile rows record_file record_path
 Asks kind rows (commands.Sweep asked file) = (kind ≡ called.Sweep) × AsksSweep rows asked × IsRunFile rows file
 Asks kind rows (commands.Why asked file) = (kind ≡ called.Why) × AsksWhy rows asked × IsRunFile rows file

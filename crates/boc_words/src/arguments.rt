@@ -241,6 +241,13 @@ pub(crate) const WITHOUT: RepeatedOption = RepeatedOption {
     help: "Leave out a cown, or an array; may be given repeatedly",
 };
 
+/// The defs that `whatif` has spawn early.
+pub(crate) const EARLY: RepeatedOption = RepeatedOption {
+    id: "early",
+    value_name: "DEF",
+    help: "Have a def spawn early; may be given repeatedly",
+};
+
 /// The file with the program that a record is of.
 pub(crate) const PROGRAM: RepeatedOption = RepeatedOption {
     id: "program",

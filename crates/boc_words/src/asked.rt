@@ -25,6 +25,17 @@ pub enum AskedCown {
     Name(String),
 }
 
+/// What `whatif` changes of a run, in this order.
+#[derive(Drop, Debug)]
+pub struct AskedChanges {
+    /// The cowns that are left out.
+    pub cowns: Vec<AskedCown>,
+    /// The names of the defs whose behaviours spawn early.
+    pub early: Vec<String>,
+    /// The edits of rows.
+    pub edits: Vec<AskedEdit>,
+}
+
 /// Which plans a report has.
 #[derive(Clone, Copy, PartialEq, Eq, Debug)]
 pub struct AskedPlans {

@@ -8,10 +8,10 @@ ghost use Rattle.boc_words.specs.Words.{IsNoneOf, Told, command_line, without_co
 
 use crate::arguments::Argument::{Flag, Number, Repeated, Word, Words};
 use crate::arguments::{
-    ALL, Argument, BEST, CURVE_WORKERS, DEPTH, DRAWN_DEPTH, DRAWN_WORKERS, EDITS, FIRST_SEED,
-    INPUT, NAMES, NO_PLAN, PROGRAM, QUIET, RECORD, RUNNERS, RUNNERS_ALONE, RUNS, SEED, SHARING,
-    SHORT, SWEEP_COWNS, SWEEP_SPAWNS, SWEEP_WORKERS, THEN, TIMED, TOP, WHY_WORKERS, WITHOUT,
-    WORKERS,
+    ALL, Argument, BEST, CURVE_WORKERS, DEPTH, DRAWN_DEPTH, DRAWN_WORKERS, EARLY, EDITS,
+    FIRST_SEED, INPUT, NAMES, NO_PLAN, PROGRAM, QUIET, RECORD, RUNNERS, RUNNERS_ALONE, RUNS, SEED,
+    SHARING, SHORT, SWEEP_COWNS, SWEEP_SPAWNS, SWEEP_WORKERS, THEN, TIMED, TOP, WHY_WORKERS,
+    WITHOUT, WORKERS,
 };
 use crate::version::VERSION;
 use boc_program::limits::{
@@ -397,8 +397,8 @@ is read as a record, which begins with `boc`. With --record the input is a
 program, and FILE has its run. On 2 or more threads a call may get another run
 than the one before; with --seed or --timed each gets the same.
 
-Every other argument is an edit. Edits are made in the order given; K and D are
-1 to 1,000:
+Every other argument is an edit. Edits are made in the order given, after
+--without and --early; K and D are 1 to 1,000:
   ROW=TICKS     Set the ticks of a row. Its children are spawned at the same
                 ticks as before. TICKS below 1, or below the offset of the row's
                 last child (the tick that spawns it), is refused as BelowSpawn.
@@ -411,6 +411,10 @@ Every other argument is an edit. Edits are made in the order given; K and D are
 
 --without takes the number or the name of a cown, or the name of an array. What
 is left out imposes no order; all other orders stay as they are.
+
+--early takes the name of a def. Each behaviour of it spawns its first child at
+its tick 1, and each further child one tick later. boc why lists this change as
+`early spawns by DEF`.
 
 Output: the lines of boc profile, or with --short:
   work, span    Before and after, and how the span changes. With --p also the
@@ -667,6 +671,7 @@ const WHATIF: Entry = Entry {
         Number(WORKERS),
         Flag(SHARING),
         Repeated(WITHOUT),
+        Repeated(EARLY),
         Repeated(RECORD),
         Repeated(PROGRAM),
         Repeated(NAMES),

@@ -11,8 +11,8 @@ mod version;
 mod words;
 
 pub use asked::{
-    AskedCown, AskedCowns, AskedCurve, AskedDraws, AskedEdit, AskedPlans, AskedProfile, AskedSweep,
-    AskedWhy, RunFile, WhatIfFile,
+    AskedChanges, AskedCown, AskedCowns, AskedCurve, AskedDraws, AskedEdit, AskedPlans,
+    AskedProfile, AskedSweep, AskedWhy, RunFile, WhatIfFile,
 };
 pub use boc_program::count::{Runners, Runs};
 pub use fault::WordsFault;

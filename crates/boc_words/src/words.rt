@@ -10,7 +10,7 @@ ghost use Rattle.boc_words.specs.Words.{GivesFile, GivesNumber, IsAsked, IsCownT
 ghost use Rattle.boc_words.specs.Words.{IsOfFiles, IsOfKind, IsOfNoText, IsOfNumber, IsOfSweep, IsOver, IsRefused, IsRunFile, IsTextOfKind, IsUnread};
 ghost use Rattle.boc_words.specs.Words.{AreDraws, AreEditsOf, GivesOr, IsOfDraws, IsOfInput, IsOfPaths, IsOfSchedule, IsOfWords, IsPathOf, IsSchedule};
 ghost use Rattle.boc_words.specs.Words.{AreTimedWorkers, IsOfTimedWorkers, IsOfUntimed, IsUntimed};
-ghost use Rattle.boc_words.specs.Words.{ArePlans, ReadsFrom};
+ghost use Rattle.boc_words.specs.Words.{AreChanges, AreEarlyDefs, ArePlans, ReadsFrom};
 ghost use Rattle.boc_words.specs.Words.{command_line, values_at};
 ghost use Rattle.std.specs.List.{filter};
 ghost use Rattle.clap.specs.Kinds.{HasKind};
@@ -19,13 +19,13 @@ ghost use Rattle.clap.specs.Words.{fault_of, found_of, kind_of, rows_of, subcomm
 ghost use Rattle.std.specs.Prelude.{◌≡◌, ◌∷◌, ◌<◌, ◌^◌, ◌↔◌, if◌then◌else◌, [], ℕ, IfErr, IfNone, IfOk, IfSome, IsTrue, codes, map, not, string_bytes};
 
 use crate::arguments::{
-    ALL, BEST, DEPTH, EDITS, INPUT, NAMES, NO_PLAN, NumberOption, Numbers, PROGRAM, QUIET, RECORD,
-    RUNNERS, RUNS, RepeatedOption, SEED, SHARING, SHORT, SWEEP_COWNS, SWEEP_SPAWNS, THEN, TIMED,
-    TOP, WITHOUT, WORKERS,
+    ALL, BEST, DEPTH, EARLY, EDITS, INPUT, NAMES, NO_PLAN, NumberOption, Numbers, PROGRAM, QUIET,
+    RECORD, RUNNERS, RUNS, RepeatedOption, SEED, SHARING, SHORT, SWEEP_COWNS, SWEEP_SPAWNS, THEN,
+    TIMED, TOP, WITHOUT, WORKERS,
 };
 use crate::asked::{
-    AskedCown, AskedCowns, AskedCurve, AskedDraws, AskedEdit, AskedPlans, AskedProfile, AskedSweep,
-    AskedWhy, RunFile, WhatIfFile,
+    AskedChanges, AskedCown, AskedCowns, AskedCurve, AskedDraws, AskedEdit, AskedPlans,
+    AskedProfile, AskedSweep, AskedWhy, RunFile, WhatIfFile,
 };
 use crate::commands::{Kind, kind_of, parser};
 use crate::edit_word::{edit_of, is_edit};
@@ -77,12 +77,10 @@ pub enum Command {
         sharing: Sharing,
         quiet: bool,
     },
-    /// The report on such rows without these cowns and after these edits, with these plans; or, where that is requested, what they
-    /// change in short.
+    /// The report on such rows after these changes, with these plans; or, where that is requested, what they change in short.
     WhatIf {
         schedule: Schedule,
-        cowns: Vec<AskedCown>,
-        edits: Vec<AskedEdit>,
+        changes: AskedChanges,
         plans: AskedPlans,
         sharing: Sharing,
         file: Option<WhatIfFile>,
@@ -279,8 +277,7 @@ fn asked_whatif(alloc: Global, matches: &ArgMatches) -> Result<Command, WordsFau
     Ok(Command::WhatIf {
         file: whatif_file_asked(alloc, matches)?,
         schedule: schedule_asked(alloc, matches)?,
-        cowns: cowns_asked(alloc, matches)?,
-        edits: edits_asked(alloc, matches)?,
+        changes: changes_asked(alloc, matches)?,
         plans: plans_asked(alloc, matches)?,
         sharing: sharing_asked(matches),
         short: is_set(texts_at(matches, SHORT.id)),
@@ -503,6 +500,18 @@ fn whatif_file_asked(alloc: Global, matches: &ArgMatches) -> Result<Option<WhatI
     }
 }
 
+// Returns what the words have `whatif` change. The first word that looks like an edit and is none is a fault.
+fn changes_asked(alloc: Global, matches: &ArgMatches) -> Result<AskedChanges, WordsFault>
+    ensures asked { IfOk result (AreChanges (rows_of (found_of matches.now))) }
+    ensures refused { IfErr result (IsOfEditWords (rows_of (found_of matches.now))) }
+{
+    Ok(AskedChanges {
+        cowns: cowns_asked(alloc, matches)?,
+        early: early_asked(alloc, matches)?,
+        edits: edits_asked(alloc, matches)?,
+    })
+}
+
 // Returns the cowns that the words leave out, in their order.
 fn cowns_asked(alloc: Global, matches: &ArgMatches) -> Result<Vec<AskedCown>, AllocError>
     ensures { IfOk result (λ cowns. AreCowns (rows_of (found_of matches.now)) cowns.items) }
@@ -524,6 +533,19 @@ fn cown_of(alloc: Global, text: &str) -> Result<AskedCown, AllocError>
         Ok(number) => Ok(AskedCown::Number(number)),
         Err(_) => Ok(AskedCown::Name(String::from_str(alloc, text)?)),
     }
+}
+
+// Returns the names of the defs that the words have spawn early, in their order.
+fn early_asked(alloc: Global, matches: &ArgMatches) -> Result<Vec<String>, AllocError>
+    ensures { IfOk result (λ defs. AreEarlyDefs (rows_of (found_of matches.now)) defs.items) }
+{
+    let texts = texts_at(matches, EARLY.id);
+    let mut defs = Vec::new(alloc);
+    for text in texts {
+        let def = String::from_str(alloc, text)?;
+        defs.push(def)?;
+    }
+    Ok(defs)
 }
 
 // Returns the edits that the words of `whatif` name. The first word that looks like one and is none is a fault.

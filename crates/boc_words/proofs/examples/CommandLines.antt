@@ -9,7 +9,7 @@ use Rattle.boc_words.specs.declared.asked.AskedCown.TheVariants.{Number}
 use Rattle.boc_words.specs.declared.asked.AskedEdit.TheVariants.{Row}
 use Rattle.boc_words.specs.Words.{AreAtOdds, AreCowns, AreDraws, AreRunners, AreShared, AreTaken, AreUpTo, AreTooMany, AreWorkers, IsOver, IsSchedule}
 use Rattle.boc_words.specs.Words.{GivesNumber, LacksSeed, Names}
-use Rattle.boc_words.specs.Words.{command_line, values_at}
+use Rattle.boc_words.specs.Words.{command_line, edit_words, values_at}
 use Rattle.boc_words.specs.declared.commands.Kind.TheVariants as called
 use Rattle.boc_words.specs.declared.schedule.Schedule.TheVariants.{Drawn, Timed}
 use Rattle.boc_plans.specs.declared.edit.Change.TheVariants.{Offset, Ticks, Cost}
@@ -58,6 +58,18 @@ without_named = (
     refl,
   ),
 )
+
+abbrev early_words : List Text
+early_words = codes "boc" ∷ codes "whatif" ∷ codes "--early" ∷ codes "parse" ∷ codes "p.boc" ∷ codes "--early=" ∷ codes "parse=1/2" ∷ []
+
+pub early_taken : AreTaken early_words
+unfolding clap_on_literals
+early_taken = refl
+
+pub early_named : Names (subcommand_of command_line early_words) called.WhatIf (λ rows.
+    (values_at rows (codes "early") ≡ codes "parse" ∷ [] ∷ []) × (edit_words rows ≡ codes "parse=1/2" ∷ []))
+unfolding clap_on_literals
+early_named = (_, refl, (refl, refl))
 
 abbrev sweep_words : List Text
 sweep_words = codes "boc" ∷ codes "sweep" ∷ codes "--p=3" ∷ codes "--shared-reads" ∷ []
@@ -350,3 +362,11 @@ cowns_with_a_value = refl
 pub no_cown : fault_of command_line (codes "boc" ∷ codes "whatif" ∷ codes "--without" ∷ []) ≡ kinds.InvalidValue ∷ []
 unfolding clap_on_literals
 no_cown = refl
+
+pub no_early_def : fault_of command_line (codes "boc" ∷ codes "whatif" ∷ codes "--early" ∷ []) ≡ kinds.InvalidValue ∷ []
+unfolding clap_on_literals
+no_early_def = refl
+
+pub early_of_why : fault_of command_line (codes "boc" ∷ codes "why" ∷ codes "--early" ∷ codes "parse" ∷ []) ≡ kinds.UnknownArgument ∷ []
+unfolding clap_on_literals
+early_of_why = refl

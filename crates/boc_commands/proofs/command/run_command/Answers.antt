@@ -1,6 +1,4 @@
 use Rattle.std.proofs.Common.{List, Err, rules, subst, sym}
-use Rattle.boc_words.specs.declared.asked.AskedCown.{AskedCown}
-use Rattle.boc_words.specs.declared.asked.AskedEdit.{AskedEdit}
 use Rattle.boc_words.specs.declared.words.Command.{Command}
 use Rattle.boc_commands.specs.declared.program_input.Supplied.{Supplied}
 use Rattle.boc_commands.specs.Commands.{RefusesRecord}
@@ -56,10 +54,4 @@ pub returns-in-WhatIf-clause-refused : goal.returns-in-WhatIf-clause-refused
 returns-in-WhatIf-clause-refused g c =
     subst (λ (command : Command). RefusesCommand g.G.Gate.always_on command c.args.beside.items c.whatif_cmd.result (g.S.Source.remaining c.args.source.now)
     (g.S.Source.remaining c.whatif_cmd.new.source)) (sym c.in-WhatIf.is)
-    (subst (λ (edits : List AskedEdit). RefusesEither (λ fault bytes. RefusesWhatIf {A = Unit {0}} c.in-WhatIf.file c.args.beside.items c.in-WhatIf.cowns.items edits (Err fault) bytes)
-    (IsOfWhatIf g.G.Gate.always_on c.in-WhatIf.schedule (supplied_to c.in-WhatIf.file) c.args.beside.items c.in-WhatIf.cowns.items edits) c.whatif_cmd.result
-    (g.S.Source.remaining c.args.source.now) (g.S.Source.remaining c.whatif_cmd.new.source)) c.deref-in-WhatIf-2.ensures.value
-    (subst (λ (cowns : List AskedCown). RefusesEither (λ fault bytes. RefusesWhatIf {A = Unit {0}} c.in-WhatIf.file c.args.beside.items cowns c.deref-in-WhatIf-2.result.now (Err fault) bytes)
-    (IsOfWhatIf g.G.Gate.always_on c.in-WhatIf.schedule (supplied_to c.in-WhatIf.file) c.args.beside.items cowns c.deref-in-WhatIf-2.result.now) c.whatif_cmd.result
-    (g.S.Source.remaining c.args.source.now) (g.S.Source.remaining c.whatif_cmd.new.source)) c.deref-in-WhatIf.ensures.value
-    c.whatif_cmd.ensures.refused))
+    c.whatif_cmd.ensures.refused

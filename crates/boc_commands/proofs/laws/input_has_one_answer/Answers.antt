@@ -11,8 +11,8 @@ returns c = record {
   check_against = one_check_against_answer;
   values_after = one_values_after_answer;
   profile = one_profile_answer;
-  whatif = λ cowns edits sharing asked bytes input output other.
-      one_whatif_answer None bytes cowns edits sharing asked false input output other;
+  whatif = λ changes sharing asked bytes input output other.
+      one_whatif_answer None bytes changes sharing asked false input output other;
   curve = one_curve_answer;
   sweep = one_sweep_answer;
   best = one_best_answer;

@@ -11,7 +11,7 @@ returns c = record {
       one_program_curve asked Record bytes input output other a b (one_record bytes a.recorded b.recorded a.run.text_of b.run.text_of);
   sweep = λ asked bytes input output other a b.
       one_program_sweep asked Record bytes input output other a b (one_record bytes a.recorded b.recorded a.run.text_of b.run.text_of);
-  whatif = λ schedule bytes cowns edits sharing plans short input output other a b.
-      one_program_whatif schedule Record bytes cowns edits sharing plans short input output other a b
+  whatif = λ schedule bytes changes sharing plans short input output other a b.
+      one_program_whatif schedule Record bytes changes sharing plans short input output other a b
       (one_record bytes a.recorded b.recorded a.run.text_of b.run.text_of);
 }

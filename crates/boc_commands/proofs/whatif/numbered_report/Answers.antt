@@ -22,26 +22,31 @@ changed-requires-clause-few_defs g c =
     let counted = numbers_counted 0 c.args.cowns c.in_ok-names.names c.in_ok-names.ensures in
     omega (arith, counted.2)
 
+pub changed-requires-clause-defs : goal.changed-requires-clause-defs
+changed-requires-clause-defs g c = λ some.
+    let asked = c.args.asked.now in
+    absurd (some (named_none asked.short asked.changes.now c.requires.nameless).1)
+
 pub returns-clause-written : goal.returns-clause-written
 returns-clause-written g c = λ names are.
     let asked = c.args.asked.now in
-    let of_rows = named_none asked.short asked.edits.now c.requires.nameless in
+    let of_rows = named_none asked.short asked.changes.now c.requires.nameless in
     let after = c.in_ok-after.after in
     leaves_as (IsReport (seen after.sharing after.rows) asked.plans)
-    (IsWhatIfReport names asked.cowns.now asked.edits.now asked.sharing asked.plans asked.short c.args.rows) c.report_after.result _ _
-    (λ made is. reported names asked.cowns.now asked.edits.now asked.sharing after.sharing asked.plans asked.short c.args.rows after.rows made of_rows.0
+    (IsWhatIfReport names asked.changes.now asked.sharing asked.plans asked.short c.args.rows) c.report_after.result _ _
+    (λ made is. reported names asked.changes.now asked.sharing after.sharing asked.plans asked.short c.args.rows after.rows made of_rows.0
     c.in_ok-after.ensures.sharing
-    (changed_too 0 _ c.args.cowns c.in_ok-names.names names c.in_ok-names.ensures are asked.cowns.now asked.edits.now c.args.rows after.rows of_rows.1
+    (changed_too 0 _ c.args.cowns c.in_ok-names.names names c.in_ok-names.ensures are asked.changes.now c.args.rows after.rows of_rows.1 of_rows.2
     c.in_ok-after.ensures.rows) is)
     c.report_after.ensures.written
 
 pub returns-clause-refused : goal.returns-clause-refused
-returns-clause-refused g c = λ names are. refused_none names _ _ _ c.report_after.result c.report_after.ensures.refused
+returns-clause-refused g c = λ names are. refused_none names _ _ c.report_after.result c.report_after.ensures.refused
 
 pub returns-in_err-after-clause-refused : goal.returns-in_err-after-clause-refused
 returns-in_err-after-clause-refused g c = λ names are.
     let asked = c.args.asked.now in
-    let of_rows = named_none asked.short asked.edits.now c.requires.nameless in
-    refused_from names asked.cowns.now asked.edits.now c.args.rows _ c.in_err-after.field-0.0 c.from_residual-in_err-after.ensures.1
-    (refused_too 0 _ c.args.cowns c.in_ok-names.names names c.in_ok-names.ensures are asked.cowns.now asked.edits.now c.args.rows c.in_err-after.field-0.0
-    of_rows.1 c.in_err-after.ensures.rows)
+    let of_rows = named_none asked.short asked.changes.now c.requires.nameless in
+    refused_from names asked.changes.now c.args.rows _ c.in_err-after.field-0.0 c.from_residual-in_err-after.ensures.1
+    (refused_too 0 _ c.args.cowns c.in_ok-names.names names c.in_ok-names.ensures are asked.changes.now c.args.rows c.in_err-after.field-0.0
+    of_rows.1 of_rows.2 c.in_err-after.ensures.rows)

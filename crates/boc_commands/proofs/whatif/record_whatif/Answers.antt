@@ -5,16 +5,16 @@ use Rattle.boc_commands.proofs.whatif.record_whatif.Goals as goal
 
 pub returns-in_err-run-clause-refused : goal.returns-in_err-run-clause-refused
 returns-in_err-run-clause-refused g c =
-    refused_before c.args.file.now c.args.bytes.now _ _ _ c.in_err-run.field-0.0 _ c.from_residual.ensures.1 c.in_err-run.ensures.refused
+    refused_before c.args.file.now c.args.bytes.now _ _ c.in_err-run.field-0.0 _ c.from_residual.ensures.1 c.in_err-run.ensures.refused
 
 pub returns-clause-written : goal.returns-clause-written
 returns-clause-written g c =
-    written_named c.args.file.now c.args.bytes.now _ _ _ _ _ c.in_ok-run.run' c.whatif_report.result _ _ _ _ c.in_ok-run.ensures.read
+    written_named c.args.file.now c.args.bytes.now _ _ _ _ c.in_ok-run.run' c.whatif_report.result _ _ _ _ c.in_ok-run.ensures.read
     c.whatif_report.ensures.written
 
 pub returns-clause-refused : goal.returns-clause-refused
 returns-clause-refused g c =
-    refused_asked c.args.file.now c.args.bytes.now _ _ c.in_ok-run.run' c.whatif_report.result _ _ c.in_ok-run.ensures.read c.whatif_report.ensures.refused
+    refused_asked c.args.file.now c.args.bytes.now _ c.in_ok-run.run' c.whatif_report.result _ _ c.in_ok-run.ensures.read c.whatif_report.ensures.refused
 
 pub returns-clause-source : goal.returns-clause-source
 returns-clause-source g c =

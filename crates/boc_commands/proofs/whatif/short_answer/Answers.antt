@@ -6,7 +6,7 @@ use Rattle.boc_commands.proofs.whatif.short_answer.Goals as goal
 pub outcome_of-requires-2-clause-defs : goal.outcome_of-requires-2-clause-defs
 outcome_of-requires-2-clause-defs c =
     ap length c.deref-2.ensures.value ∙ c.requires.defs
-    ∙ sym (supposed_length c.args.names.now c.args.asked.now.cowns.now c.args.asked.now.edits.now c.args.rows c.in_ok-after.after.rows
+    ∙ sym (supposed_length c.args.names.now c.args.asked.now.changes.now c.args.rows c.in_ok-after.after.rows
     c.in_ok-after.ensures.rows)
 
 pub returns-in_err-now : goal.returns-in_err-now
@@ -19,7 +19,7 @@ pub returns : goal.returns
 returns c =
     let names = c.args.names.now in
     let asked = c.args.asked.now in
-    told_shortly names asked.cowns.now asked.edits.now asked.sharing asked.plans.workers c.args.rows c.in_ok-after.after.rows c.in_ok-was.was' c.in_ok-now.now
+    told_shortly names asked.changes.now asked.sharing asked.plans.workers c.args.rows c.in_ok-after.after.rows c.in_ok-was.was' c.in_ok-now.now
     c.in_ok-short_text.field-0.items c.in_ok-after.ensures.rows
     (outcome_as c.args.rows c.in_ok-before.before.rows asked.sharing c.in_ok-before.before.sharing names.defs.items c.deref.result.now asked.plans.workers
     c.in_ok-was.was' c.in_ok-was.ensures c.in_ok-before.ensures.rows c.in_ok-before.ensures.sharing c.deref.ensures.value)

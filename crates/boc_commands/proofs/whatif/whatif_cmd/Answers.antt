@@ -33,7 +33,7 @@ pub returns-clause-written : goal.returns-clause-written
 returns-clause-written g c =
     leaves_program _ _ c.whatif_report.result _ _ _ _ c.in-Some.text.items
     (some_taken c.in_ok-found.found c.in-Some.text _ _ c.in-Some.is c.in_ok-found.ensures.taken)
-    c.in_ok-run.ensures.1 (λ output told. inr (program_whatif c.args.schedule (supplied_to c.args.file.now) c.args.bytes.items _ _ _ _ _
+    c.in_ok-run.ensures.1 (λ output told. inr (program_whatif c.args.schedule (supplied_to c.args.file.now) c.args.bytes.items _ _ _ _
     c.in-Some.text.items c.in_ok-run.run' output
     (subst (λ (s : Supplied). HasRun (IsProgramRun c.args.schedule s c.args.bytes.items c.in-Some.text.items) c.in_ok-run.run')
     c.supplied_to.ensures c.in_ok-run.ensures.0) told))

@@ -28,7 +28,7 @@ loop-index-preserved c =
       spells = spelt;
     } in
     record {
-      taken = taken_next c.args.words.now c.loop-index.index _ c.loop-index.edits.items c.push.new.self.items c.in-Some.edit
+      taken = taken_next edit_word c.args.words.now c.loop-index.index _ c.loop-index.edits.items c.push.new.self.items c.in-Some.edit
           c.loop-index-test.true c.loop-index.invariant.taken c.in_ok-push.ensures.items spelt;
       writable = writable_next c.loop-index.edits.items c.push.new.self.items c.in-Some.edit c.loop-index.invariant.writable
           written c.in_ok-push.ensures.items;

@@ -17,9 +17,9 @@ use Rattle.boc_outcomes.specs.Samples.{IsSample, Sample}
 use Rattle.boc_outcomes.proofs.OneSample.{brought_back}
 use Rattle.boc_words.specs.declared.asked.AskedDraws.{AskedDraws}
 use Rattle.boc_words.specs.declared.schedule.Schedule.TheVariants.{Drawn as Draws}
-use Rattle.boc_commands.specs.OutcomesAnswers.{IsOutcomesAnswer, drawn_in}
-use Rattle.boc_commands.specs.Schedules.{IsDrawnBy, IsScheduledText}
-use Rattle.boc_commands.proofs.OneProgram.{same_program}
+use Rattle.boc_run_commands.specs.OutcomesAnswers.{IsOutcomesAnswer, drawn_in}
+use Rattle.boc_run_commands.specs.Schedules.{IsDrawnBy, IsScheduledText}
+use Rattle.boc_run_commands.proofs.OneProgram.{same_program}
 
 -- a run that is drawn once more ends with the values that it had
 same_values : (p : Program) (workers : ℕ) (way : Way) (seed : ℕ) (sample : Sample) (drawn : Drawn) (recorded : Recorded) → IsSample p workers way seed sample

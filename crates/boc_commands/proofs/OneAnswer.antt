@@ -11,17 +11,17 @@ use Rattle.boc_plans.specs.Plans.{work_of, HasEnds, IsEnd}
 use Rattle.boc_plans.specs.Chains.{IsPicked}
 use Rattle.boc_plans.specs.declared.sweep.Sweep.{Sweep}
 use Rattle.boc_plans.specs.declared.sweep.Sweep.TheVariants.{Ticks as TicksOf, Cowns, Spawns}
-use Rattle.boc_commands.specs.Answers.{AreSwept, IsPartFor, IsGreedyPart, IsReport, IsValuesAnswer, IsCheckAnswer, IsProfileAnswer}
-use Rattle.boc_commands.specs.Answers.{IsCurveAnswer, IsCurveTold, IsSweepAnswer, first_of}
-use Rattle.boc_commands.specs.BestAnswers.{AreBest, IsBestAnswer, IsUnswept, best_lines}
-use Rattle.boc_commands.specs.Beside.{IsCheckAgainstAnswer, IsValuesAfterAnswer}
+use Rattle.boc_run_commands.specs.Answers.{AreSwept, IsPartFor, IsGreedyPart, IsReport, IsValuesAnswer, IsCheckAnswer, IsProfileAnswer}
+use Rattle.boc_run_commands.specs.Answers.{IsCurveAnswer, IsCurveTold, IsSweepAnswer, first_of}
+use Rattle.boc_plan_commands.specs.BestAnswers.{AreBest, IsBestAnswer, IsUnswept, best_lines}
+use Rattle.boc_run_commands.specs.Beside.{IsCheckAgainstAnswer, IsValuesAfterAnswer}
 use Rattle.boc_words.specs.declared.asked.AskedPlans.{AskedPlans}
 use Rattle.boc_runs.specs.Run.{config_of}
 use Rattle.boc_why.specs.Ranking.{AreRanked}
 use Rattle.boc_why.specs.declared.ranking.Placed.{Placed}
 use Rattle.boc_why.proofs.OneRanking.{one_ranked}
 use Rattle.boc_ends_report.specs.ValueTexts.{values_text}
-use Rattle.boc_commands.specs.CheckTexts.{check_text}
+use Rattle.boc_run_commands.specs.CheckTexts.{check_text}
 use Rattle.boc_report.specs.Texts.{report_text, greedy_text, curve_text, sweep_lines}
 use Rattle.boc_runs.proofs.OwnOrders.{ends_once}
 use Rattle.boc_plans.proofs.Seeing.{rows_seen}
@@ -40,8 +40,8 @@ use Rattle.boc_outcomes.proofs.OneSample.{same_outcomes}
 use Rattle.boc_ends_report.specs.OutcomeTexts.{outcomes_text}
 use Rattle.boc_ends_report.proofs.OneText.{one_text}
 use Rattle.boc_words.specs.declared.asked.AskedDraws.{AskedDraws}
-use Rattle.boc_commands.specs.OutcomesAnswers.{IsOutcomesAnswer, drawn_in}
-use Rattle.boc_commands.proofs.OneProgram.{same_program}
+use Rattle.boc_run_commands.specs.OutcomesAnswers.{IsOutcomesAnswer, drawn_in}
+use Rattle.boc_run_commands.proofs.OneProgram.{same_program}
 
 one_greedy_part : (rows : List Row) → IsRows rows → (unplanned : Bool) (p : ℕ) (part other : List ℕ) → IsGreedyPart rows unplanned p part
     → IsGreedyPart rows unplanned p other → part ≡ other

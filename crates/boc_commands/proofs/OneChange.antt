@@ -1,5 +1,6 @@
 -- What is supposed of a record has one answer.
-use Rattle.std.proofs.Common.{◌≡◌, ◌∙◌, ◌||◌, ℕ, Bool, true, false, List, [], ◌∷◌, ◌++◌, length, map, Option, Some, None, String, Vec, ap, ap₂, refl, subst, sym}
+use Rattle.std.proofs.Common.{◌≡◌, ◌∙◌, ◌||◌, ℕ, Bool, true, false, List, [], ◌∷◌, ◌++◌, length, map, Option, Some, None, String, Vec, ap, ap₂, refl}
+use Rattle.std.proofs.Common.{subst, sym}
 use Rattle.std.specs.Prelude.{cond, filter, nat_lt, slice_index, string_bytes}
 use Rattle.std.specs.Global.{Global}
 use Rattle.std.specs.Int.{from_bool}
@@ -39,11 +40,11 @@ use Rattle.boc_words.specs.declared.asked.AskedCown.TheVariants as asked_cowns
 use Rattle.boc_words.specs.declared.asked.AskedEdit.{AskedEdit}
 use Rattle.boc_words.specs.declared.asked.AskedEdit.TheVariants as asked_edits
 use Rattle.boc_words.specs.declared.asked.WhatIfFile.{WhatIfFile}
-use Rattle.boc_commands.specs.Asked.{AreMadeEarly, all_cowns, all_edits, costs, cowns_of, edits_of, first_some, marks_of, named, starred}
+use Rattle.boc_plan_commands.specs.Asked.{AreMadeEarly, all_cowns, all_edits, costs, cowns_of, edits_of, first_some, marks_of, named, starred}
 use Rattle.boc_words.specs.declared.asked.AskedPlans.{AskedPlans}
-use Rattle.boc_commands.specs.NamedRuns.{IsNamedRecord}
-use Rattle.boc_commands.specs.WhatIfAnswers.{AreChangedSo, IsAskedEnd, IsOutcome, IsReportAfter, IsShortReport, IsWhatIfAnswer, IsWhatIfReport}
-use Rattle.boc_commands.proofs.EarlyRows.{rows_early}
+use Rattle.boc_run_commands.specs.NamedRuns.{IsNamedRecord}
+use Rattle.boc_plan_commands.specs.WhatIfAnswers.{AreChangedSo, IsAskedEnd, IsOutcome, IsReportAfter, IsShortReport, IsWhatIfAnswer, IsWhatIfReport}
+use Rattle.boc_plan_commands.proofs.EarlyRows.{rows_early}
 use Rattle.boc_commands.proofs.OneAnswer.{one_report, rows_are}
 use Rattle.boc_commands.proofs.OneNaming.{is_text_of, one_named_record}
 

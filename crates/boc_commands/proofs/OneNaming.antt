@@ -16,12 +16,12 @@ use Rattle.boc_words.specs.declared.asked.WhatIfFile.TheVariants as names_from
 use Rattle.boc_words.specs.declared.asked.RunFile.{RunFile}
 use Rattle.boc_words.specs.declared.asked.RunFile.TheVariants as run_files
 use Rattle.boc_words.specs.declared.schedule.Schedule.{Schedule}
-use Rattle.boc_commands.specs.declared.program_input.Supplied.{Supplied}
-use Rattle.boc_commands.specs.declared.program_input.Supplied.TheVariants.{Nothing, Record, Names as NamesFile}
-use Rattle.boc_commands.specs.ProgramInputs.{IsProgramRun}
-use Rattle.boc_commands.specs.NamedRuns.{IsNamedRecord, IsNamedRun, IsOwnRun, IsRecordNumbered, IsRunGiven, IsRunNamed}
+use Rattle.boc_plan_commands.specs.declared.program_input.Supplied.{Supplied}
+use Rattle.boc_plan_commands.specs.declared.program_input.Supplied.TheVariants.{Nothing, Record, Names as NamesFile}
+use Rattle.boc_plan_commands.specs.ProgramInputs.{IsProgramRun}
+use Rattle.boc_run_commands.specs.NamedRuns.{IsNamedRecord, IsNamedRun, IsOwnRun, IsRecordNumbered, IsRunGiven, IsRunNamed}
 use Rattle.boc_commands.proofs.NoProgram.{record_spells_none}
-use Rattle.boc_commands.proofs.OneProgram.{same_program}
+use Rattle.boc_run_commands.proofs.OneProgram.{same_program}
 
 -- ---- names
 

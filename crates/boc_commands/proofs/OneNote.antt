@@ -16,8 +16,8 @@ use Rattle.boc_order.proofs.Alone.{one_span}
 use Rattle.boc_timed.specs.declared.timing.TimedRun.{TimedRun}
 use Rattle.boc_timed.specs.Timed.{IsTimedRun}
 use Rattle.boc_timed.proofs.OneTimed.{one_run, run_or_full}
-use Rattle.boc_commands.specs.TimedNotes.{HasTimedSpan, IsNoteFor, IsTimedNote, IsTimedSpan, note_beside}
-use Rattle.boc_commands.proofs.OneProgram.{same_program}
+use Rattle.boc_run_commands.specs.TimedNotes.{HasTimedSpan, IsNoteFor, IsTimedNote, IsTimedSpan, note_beside}
+use Rattle.boc_run_commands.proofs.OneProgram.{same_program}
 
 -- a timed run has one list of rows
 rows_same : (p : Program) (workers : ℕ) (a b : TimedRun) → IsTimedRun p workers a → IsTimedRun p workers b → a.record.rows ≡ b.record.rows

@@ -20,15 +20,16 @@ use Rattle.boc_words.specs.declared.asked.AskedProfile.{AskedProfile}
 use Rattle.boc_words.specs.declared.asked.AskedSweep.{AskedSweep}
 use Rattle.boc_words.specs.declared.asked.WhatIfFile.{WhatIfFile}
 use Rattle.boc_words.specs.declared.schedule.Schedule.{Schedule}
-use Rattle.boc_commands.specs.declared.program_input.Supplied.{Supplied}
-use Rattle.boc_commands.specs.declared.program_input.Supplied.TheVariants.{Nothing, Record, Names as NamesFile}
-use Rattle.boc_commands.specs.Answers.{IsCurveTold, IsReport, first_of}
-use Rattle.boc_commands.specs.NamedRuns.{IsRecordNumbered}
-use Rattle.boc_commands.specs.Notes.{AreWanted, TellsProfile, TellsProfileOf, TellsProgramProfile, notes_of_rows}
-use Rattle.boc_commands.specs.ProgramInputs.{IsCurveOf, IsProgramCurve, IsProgramRun, supplied_to}
-use Rattle.boc_commands.specs.SweepAnswers.{AnswersSweep, AreAllTold, AreBestTold, AreTold, IsNamedSweep, IsNumberedSweep, IsProgramSweep, IsRecordSweep}
-use Rattle.boc_commands.specs.SweepAnswers.{IsSwept, are_named, best_text, called_of, lines_text}
-use Rattle.boc_commands.specs.WhatIfAnswers.{AnswersWhatIf, IsProgramWhatIf, IsWhatIfReport}
+use Rattle.boc_plan_commands.specs.declared.program_input.Supplied.{Supplied}
+use Rattle.boc_plan_commands.specs.declared.program_input.Supplied.TheVariants.{Nothing, Record, Names as NamesFile}
+use Rattle.boc_run_commands.specs.Answers.{IsCurveTold, IsReport, first_of}
+use Rattle.boc_run_commands.specs.NamedRuns.{IsRecordNumbered}
+use Rattle.boc_run_commands.specs.Notes.{AreWanted, TellsProfile, notes_of_rows}
+use Rattle.boc_plan_commands.specs.Tells.{TellsProfileOf, TellsProgramProfile}
+use Rattle.boc_plan_commands.specs.ProgramInputs.{IsCurveOf, IsProgramCurve, IsProgramRun, supplied_to}
+use Rattle.boc_plan_commands.specs.SweepAnswers.{AnswersSweep, AreAllTold, AreBestTold, AreTold, IsNamedSweep, IsNumberedSweep, IsProgramSweep, IsRecordSweep}
+use Rattle.boc_plan_commands.specs.SweepAnswers.{IsSwept, are_named, best_text, called_of, lines_text}
+use Rattle.boc_plan_commands.specs.WhatIfAnswers.{AnswersWhatIf, IsProgramWhatIf, IsWhatIfReport}
 use Rattle.boc_commands.proofs.OneAnswer.{one_best, one_best_answer, one_curve_answer, one_curve_told, one_profile_answer, one_report, one_sweep_answer}
 use Rattle.boc_commands.proofs.OneAnswer.{one_swept, one_unswept, rows_are}
 use Rattle.boc_commands.proofs.OneChange.{one_whatif_answer, one_whatif_report}

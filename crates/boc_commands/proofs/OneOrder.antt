@@ -9,7 +9,7 @@ use Rattle.boc_eager.specs.declared.swap.Swap.{Swap}
 use Rattle.boc_eager.specs.Swaps.{IsFirstSwap, IsLeastSwap, StartsFirst}
 use Rattle.boc_eager.proofs.EagerPlans.{one_plan}
 use Rattle.boc_advice_report.specs.declared.order.OtherOrder.{OtherOrder}
-use Rattle.boc_commands.specs.OrderAnswers.{IsOrderFor, IsOtherOrder}
+use Rattle.boc_plan_commands.specs.OrderAnswers.{IsOrderFor, IsOtherOrder}
 
 -- two rows that each start first are one
 one_first : (plan : List ℕ) (b c : ℕ) → StartsFirst plan b c → StartsFirst plan c b → b ≡ c

@@ -13,10 +13,10 @@ use Rattle.boc_words.specs.declared.asked.RunFile.{RunFile}
 use Rattle.boc_words.specs.declared.asked.RunFile.TheVariants as run_files
 use Rattle.boc_words.specs.declared.schedule.Schedule.{Schedule}
 use Rattle.boc_words.specs.declared.schedule.Schedule.TheVariants.{Threads, Drawn as Draws, Timed as Times}
-use Rattle.boc_commands.specs.NamedRuns.{HasOwnTimes, HasTimes}
-use Rattle.boc_commands.specs.Schedules.{AreTimes, AreTimesBy, AreTimesText}
-use Rattle.boc_commands.specs.TimedAnswers.{end_of_times}
-use Rattle.boc_commands.proofs.OneProgram.{same_program}
+use Rattle.boc_run_commands.specs.NamedRuns.{HasOwnTimes, HasTimes}
+use Rattle.boc_run_commands.specs.Schedules.{AreTimes, AreTimesBy, AreTimesText}
+use Rattle.boc_run_commands.specs.TimedAnswers.{end_of_times}
+use Rattle.boc_run_commands.proofs.OneProgram.{same_program}
 
 -- the ends that are told of two
 abbrev EndAlike : Option TimedRows → Option TimedRows → Type 0

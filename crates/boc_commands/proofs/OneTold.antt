@@ -28,14 +28,15 @@ use Rattle.boc_cowns_report.proofs.OneText.{one_text as one_cowns_text}
 use Rattle.boc_words.specs.declared.asked.AskedCowns.{AskedCowns}
 use Rattle.boc_words.specs.declared.asked.AskedWhy.{AskedWhy}
 use Rattle.boc_words.specs.declared.asked.RunFile.{RunFile}
-use Rattle.boc_commands.specs.CownsAnswers.{AreJudged, AreJudgedFor, AreTold, AreToldBy}
-use Rattle.boc_commands.specs.NamedRuns.{HasTimes, IsNamedRun}
-use Rattle.boc_commands.specs.Notes.{AreWanted, AreWhyNotes, TellsCowns, TellsWhy, notes_of_rows}
-use Rattle.boc_commands.specs.OrderAnswers.{IsOtherOrder}
-use Rattle.boc_commands.specs.TimedNotes.{workers_compared}
+use Rattle.boc_plan_commands.specs.CownsAnswers.{AreJudged, AreJudgedFor, AreTold, AreToldBy}
+use Rattle.boc_run_commands.specs.NamedRuns.{HasTimes, IsNamedRun}
+use Rattle.boc_run_commands.specs.Notes.{AreWanted, AreWhyNotes, notes_of_rows}
+use Rattle.boc_plan_commands.specs.Tells.{TellsCowns, TellsWhy}
+use Rattle.boc_plan_commands.specs.OrderAnswers.{IsOtherOrder}
+use Rattle.boc_run_commands.specs.TimedNotes.{workers_compared}
 use Rattle.boc_busy.specs.declared.timed.TimedRows.{TimedRows}
-use Rattle.boc_commands.specs.TimedAnswers.{end_of_times}
-use Rattle.boc_commands.specs.WhyAnswers.{AreStepsTold, IsTold, IsToldOf, IsWhyTold, advised_of, asked_of}
+use Rattle.boc_run_commands.specs.TimedAnswers.{end_of_times}
+use Rattle.boc_plan_commands.specs.WhyAnswers.{AreStepsTold, IsTold, IsToldOf, IsWhyTold, advised_of, asked_of}
 use Rattle.boc_commands.proofs.OneNote.{one_note}
 use Rattle.boc_commands.proofs.OneOrder.{one_order}
 use Rattle.boc_commands.proofs.OneTimes.{one_ends}

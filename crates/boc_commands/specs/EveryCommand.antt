@@ -8,16 +8,17 @@ use Rattle.boc_words.specs.declared.asked.WhatIfFile.{WhatIfFile}
 use Rattle.boc_words.specs.declared.asked.WhatIfFile.TheVariants as named
 use Rattle.boc_words.specs.declared.asked.RunFile.{RunFile}
 use Rattle.boc_words.specs.declared.asked.RunFile.TheVariants as files
-use Rattle.boc_commands.specs.declared.fault.Fault.{Fault}
-use Rattle.boc_commands.specs.Answers.{IsCheckAnswer}
-use Rattle.boc_commands.specs.Commands.{AnswersInput, RefusesNothing, RefusesProgram, RefusesRecord, RefusesRun}
-use Rattle.boc_commands.specs.Beside.{IsCheckAgainstAnswer, RefusesAgainst, RefusesValuesAfter}
-use Rattle.boc_commands.specs.NamedRuns.{RefusesNamedRun}
-use Rattle.boc_commands.specs.ProgramInputs.{IsCurveOf, IsOfProgramRun, RefusesEither, supplied_by, supplied_record, supplied_to}
-use Rattle.boc_commands.specs.SweepAnswers.{AnswersSweep, RefusesSweep}
-use Rattle.boc_commands.specs.Notes.{TellsCowns, TellsProfileOf, TellsRun, TellsTime, TellsValues, TellsValuesAfter, TellsWhy}
-use Rattle.boc_commands.specs.OutcomesAnswers.{IsOutcomesAnswer, RefusesDraws}
-use Rattle.boc_commands.specs.WhatIfAnswers.{AnswersWhatIf, IsOfWhatIf, RefusesWhatIf}
+use Rattle.boc_run_commands.specs.declared.fault.Fault.{Fault}
+use Rattle.boc_run_commands.specs.Answers.{IsCheckAnswer}
+use Rattle.boc_run_commands.specs.Commands.{AnswersInput, RefusesNothing, RefusesProgram, RefusesRecord, RefusesRun}
+use Rattle.boc_run_commands.specs.Beside.{IsCheckAgainstAnswer, RefusesAgainst, RefusesValuesAfter}
+use Rattle.boc_run_commands.specs.NamedRuns.{RefusesNamedRun}
+use Rattle.boc_plan_commands.specs.ProgramInputs.{IsCurveOf, IsOfProgramRun, RefusesEither, supplied_by, supplied_record, supplied_to}
+use Rattle.boc_plan_commands.specs.SweepAnswers.{AnswersSweep, RefusesSweep}
+use Rattle.boc_run_commands.specs.Notes.{TellsRun, TellsTime, TellsValues, TellsValuesAfter}
+use Rattle.boc_plan_commands.specs.Tells.{TellsCowns, TellsProfileOf, TellsWhy}
+use Rattle.boc_run_commands.specs.OutcomesAnswers.{IsOutcomesAnswer, RefusesDraws}
+use Rattle.boc_plan_commands.specs.WhatIfAnswers.{AnswersWhatIf, IsOfWhatIf, RefusesWhatIf}
 
 -- ---- the file beside the input
 

@@ -15,19 +15,19 @@ ghost use Rattle.boc_outcomes.specs.declared.tally.Outcome.{Outcome};
 ghost use Rattle.boc_words.specs.declared.schedule.Schedule.TheVariants.{Drawn as Draws};
 ghost use Rattle.boc_draws.specs.declared.fault.DrawFault.TheVariants.{Behaviours};
 ghost use Rattle.boc_workers.specs.Noting.{CanReachLimit};
-ghost use Rattle.boc_commands.specs.Schedules.{IsDrawFault, IsDrawnBy, IsScheduledText};
+ghost use Rattle.boc_run_commands.specs.Schedules.{IsDrawFault, IsDrawnBy, IsScheduledText};
 ghost use Rattle.boc_plans.specs.Seen.{seen};
 ghost use Rattle.boc_reader.specs.Spells.{Spells};
-ghost use Rattle.boc_commands.specs.Answers.{IsReport, IsValuesAnswer, IsCheckAnswer, IsProfileAnswer, IsCurveAnswer, IsSweepAnswer};
-ghost use Rattle.boc_commands.specs.BestAnswers.{IsBestAnswer};
-ghost use Rattle.boc_commands.specs.Beside.{IsCheckAgainstAnswer, IsValuesAfterAnswer};
-ghost use Rattle.boc_commands.specs.OutcomesAnswers.{IsOutcomesAnswer};
-ghost use Rattle.boc_commands.specs.WhatIfAnswers.{IsWhatIfAnswer};
+ghost use Rattle.boc_run_commands.specs.Answers.{IsReport, IsValuesAnswer, IsCheckAnswer, IsProfileAnswer, IsCurveAnswer, IsSweepAnswer};
+ghost use Rattle.boc_plan_commands.specs.BestAnswers.{IsBestAnswer};
+ghost use Rattle.boc_run_commands.specs.Beside.{IsCheckAgainstAnswer, IsValuesAfterAnswer};
+ghost use Rattle.boc_run_commands.specs.OutcomesAnswers.{IsOutcomesAnswer};
+ghost use Rattle.boc_plan_commands.specs.WhatIfAnswers.{IsWhatIfAnswer};
 ghost use Rattle.boc_order.specs.declared.report.Profile.{Profile};
 ghost use Rattle.boc_order.specs.Profiles.{IsProfileOf};
 ghost use Rattle.boc_greedy.specs.declared.plan.Greedy.{Greedy};
 ghost use Rattle.boc_greedy.specs.Plans.{IsGreedyPlanOf};
-ghost use Rattle.boc_commands.specs.Promises.{IsBest, IsTrueReport, IsWithinBound};
+ghost use Rattle.boc_run_commands.specs.Promises.{IsBest, IsTrueReport, IsWithinBound};
 
 /// Proves that the plan, the chain and the span that `profile` answers are the best, and the greedy plan that `greedy` answers ends within
 /// its bound, for the rows of every run, however they share cowns.

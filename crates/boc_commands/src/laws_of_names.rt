@@ -16,12 +16,12 @@ ghost use Rattle.boc_words.specs.declared.asked.WhatIfFile.{WhatIfFile};
 ghost use Rattle.boc_words.specs.declared.asked.RunFile.{RunFile};
 ghost use Rattle.boc_words.specs.declared.asked.RunFile.TheVariants as run_files;
 ghost use Rattle.boc_words.specs.declared.schedule.Schedule.{Schedule};
-ghost use Rattle.boc_commands.specs.declared.program_input.Supplied.{Supplied};
-ghost use Rattle.boc_commands.specs.declared.program_input.Supplied.TheVariants.{Record};
-ghost use Rattle.boc_commands.specs.Notes.{TellsCowns, TellsProfileOf, TellsProgramProfile, TellsWhy};
-ghost use Rattle.boc_commands.specs.ProgramInputs.{IsCurveOf, IsProgramCurve};
-ghost use Rattle.boc_commands.specs.SweepAnswers.{AnswersSweep, IsProgramSweep};
-ghost use Rattle.boc_commands.specs.WhatIfAnswers.{AnswersWhatIf, IsProgramWhatIf, IsWhatIfAnswer};
+ghost use Rattle.boc_plan_commands.specs.declared.program_input.Supplied.{Supplied};
+ghost use Rattle.boc_plan_commands.specs.declared.program_input.Supplied.TheVariants.{Record};
+ghost use Rattle.boc_plan_commands.specs.Tells.{TellsCowns, TellsProfileOf, TellsProgramProfile, TellsWhy};
+ghost use Rattle.boc_plan_commands.specs.ProgramInputs.{IsCurveOf, IsProgramCurve};
+ghost use Rattle.boc_plan_commands.specs.SweepAnswers.{AnswersSweep, IsProgramSweep};
+ghost use Rattle.boc_plan_commands.specs.WhatIfAnswers.{AnswersWhatIf, IsProgramWhatIf, IsWhatIfAnswer};
 
 /// Proves that of one run there is one answer at most of `why`, with one text of notes, and one of `cowns`. Where a program comes in, the threads decide which
 /// run is reported of; its record decides all that is reported.

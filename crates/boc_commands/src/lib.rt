@@ -1,52 +1,21 @@
-//! The commands of `boc` over any source and sink.
+//! Every command of `boc` over any source and sink, and laws of their answers.
 #![tactic(auto)]
 
-mod beside;
-mod best;
-mod check;
-mod check_against;
 mod command;
-mod cowns;
-mod curve;
-mod fault;
 pub mod laws;
 pub mod laws_of_names;
-mod meant;
-pub mod named_run;
-mod notes;
-pub mod order;
-mod outcomes;
-mod profile;
-pub mod program_input;
-mod report;
-mod run;
-mod sweep;
-mod swept_run;
-mod time;
-pub mod timed_note;
-mod values;
-mod values_after;
-mod whatif;
-mod why;
 
-pub use check::check_cmd;
-pub use check_against::check_against_cmd;
 pub use command::{file_named, run_command};
-pub use cowns::{cowns_cmd, judged};
-pub use curve::curve_cmd;
-pub use fault::{Fault, FileFault, InputFault, Line, Want};
-pub use named_run::{NamedRun, Origin};
-pub use outcomes::outcomes_cmd;
-pub use profile::profile_cmd;
-pub use program_input::{Setting, Supplied};
-pub use run::run_cmd;
-pub use sweep::sweep_cmd;
-pub use time::time_cmd;
-pub use values::values_cmd;
-pub use values_after::values_after_cmd;
-pub use whatif::{Supposed, whatif_cmd, whatif_report};
-pub use why::why_cmd;
 
+// The commands of each kind.
+pub use boc_plan_commands::{
+    Setting, Supplied, Supposed, cowns_cmd, curve_cmd, profile_cmd, sweep_cmd, whatif_cmd,
+    whatif_report, why_cmd,
+};
+pub use boc_run_commands::{
+    Fault, FileFault, InputFault, Line, NamedRun, Origin, Want, check_against_cmd, check_cmd,
+    outcomes_cmd, run_cmd, time_cmd, values_after_cmd, values_cmd,
+};
 // What receives how far a command is.
 pub use boc_progress::{Progress, Silent};
 // What the words of a command line ask for.

@@ -1,14 +1,14 @@
 -- What is refused of a picture.
 use Rattle.std.proofs.Common.{◌≡◌, ℕ, inl, inr, List, Option, Some, None, Result, Ok, Err, subst, sym}
 use Rattle.std.specs.Result.{IsErrAnd}
-use Rattle.boc_commands.specs.declared.fault.Fault.{Fault}
-use Rattle.boc_commands.specs.declared.fault.Fault.TheVariants as faults
-use Rattle.boc_commands.specs.declared.fault.Want.TheVariants as wants
+use Rattle.boc_run_commands.specs.declared.fault.Fault.{Fault}
+use Rattle.boc_run_commands.specs.declared.fault.Fault.TheVariants as faults
+use Rattle.boc_run_commands.specs.declared.fault.Want.TheVariants as wants
 use Rattle.boc_words.specs.declared.asked.RunFile.{RunFile}
 use Rattle.boc_words.specs.declared.asked.RunFile.TheVariants as run_files
 use Rattle.boc_words.specs.declared.schedule.Schedule.{Schedule}
-use Rattle.boc_commands.specs.NamedRuns.{IsOfNamedRun, IsOfOwn, IsTaken, RefusesNamedRun}
-use Rattle.boc_commands.proofs.TakenRuns.{begins_or_not}
+use Rattle.boc_run_commands.specs.NamedRuns.{IsOfNamedRun, IsOfOwn, IsTaken, RefusesNamedRun}
+use Rattle.boc_run_commands.proofs.TakenRuns.{begins_or_not}
 
 own_memory : (always_on : Type 0) (schedule : Schedule) (text : List ℕ) → IsOfOwn always_on schedule text (faults.Means wants.Memory)
 own_memory always_on schedule text = elim (begins_or_not text) [ inl begins ↦ inl (begins, tt) | inr none ↦ inr (none, tt) ]

@@ -16,12 +16,12 @@ use Rattle.boc_remedies.specs.Advice.{IsAdvised}
 use Rattle.boc_remedies.specs.Questions.{Asked}
 use Rattle.boc_advice_report.specs.declared.workers.ForWorkers.{ForWorkers}
 use Rattle.boc_pictures.specs.Subjects.{IsSubject}
-use Rattle.boc_commands.specs.declared.named_run.NamedRun.{NamedRun}
-use Rattle.boc_commands.specs.CownsAnswers.{AreJudged}
-use Rattle.boc_commands.specs.OrderAnswers.{IsOtherOrder}
-use Rattle.boc_commands.specs.WhyAnswers.{asked_of}
-use Rattle.boc_commands.specs.NamedRuns.{BeginsRecord, HasRun, HasTimes, IsNamedRun}
-use Rattle.boc_commands.specs.TimedNotes.{IsNoteFor, workers_compared}
+use Rattle.boc_run_commands.specs.declared.named_run.NamedRun.{NamedRun}
+use Rattle.boc_plan_commands.specs.CownsAnswers.{AreJudged}
+use Rattle.boc_plan_commands.specs.OrderAnswers.{IsOtherOrder}
+use Rattle.boc_plan_commands.specs.WhyAnswers.{asked_of}
+use Rattle.boc_run_commands.specs.NamedRuns.{BeginsRecord, HasRun, HasTimes, IsNamedRun}
+use Rattle.boc_run_commands.specs.TimedNotes.{IsNoteFor, workers_compared}
 use Rattle.boc_view.specs.declared.found.Found.{Found}
 use Rattle.boc_view.specs.declared.answer.TheConstants.{MOST_DRAWN}
 use Rattle.boc_view.specs.declared.wanted.TheConstants.{PAGE_WORKERS}

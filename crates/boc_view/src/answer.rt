@@ -1,21 +1,21 @@
 // The picture that is requested.
 
 ghost use Rattle.std.specs.Prelude.{◌≡◌, ◌++◌, ◌<◌, length, IfOk, OnOk};
-ghost use Rattle.boc_commands.specs.Commands.{CountsSource};
-ghost use Rattle.boc_commands.specs.NamedRuns.{RefusesNamedRun};
+ghost use Rattle.boc_run_commands.specs.Commands.{CountsSource};
+ghost use Rattle.boc_run_commands.specs.NamedRuns.{RefusesNamedRun};
 ghost use Rattle.boc_view.specs.Materials.{over_text, size_note};
 
 use crate::material::{Material, material_of};
 use crate::page::{page_of, run_text, title_of};
 use crate::wanted::{Picture, Wanted};
 use boc_commands::Fault;
-use boc_commands::named_run::{RECORD_WORD, taken};
 use boc_front::Watch;
 use boc_pictures::{
     Drawn, DrawnCurve, Heading, WorkerPlan, cowns_text, curve_drawing, curve_text, plan_drawing,
     plan_text, trace_text, workers_text,
 };
 use boc_progress::Progress;
+use boc_run_commands::named_run::{RECORD_WORD, taken};
 use boc_text::{Source, put_number};
 use std::alloc::{AllocError, Global};
 use std::sync::Wait;

@@ -1,15 +1,15 @@
 // What a page says of a run: why the rows take as long as they do, and what would help.
 
 ghost use Rattle.std.specs.Prelude.{◌≡◌, ◌≤◌, IfOk};
-ghost use Rattle.boc_commands.specs.NamedRuns.{AreFew};
+ghost use Rattle.boc_run_commands.specs.NamedRuns.{AreFew};
 ghost use Rattle.boc_view.specs.Materials.{IsFound};
 
 use boc_advice_report::OtherOrder;
-use boc_commands::judged;
-use boc_commands::order::other_order;
 use boc_cowns::{HotCowns, hot_cowns};
 use boc_cowns_report::JudgedCown;
 use boc_names::Names;
+use boc_plan_commands::judged;
+use boc_plan_commands::order::other_order;
 use boc_plans::sharing::Sharing;
 use boc_program::count::Workers;
 use boc_progress::Progress;

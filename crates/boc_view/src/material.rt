@@ -3,15 +3,13 @@
 ghost use Rattle.std.specs.Prelude.{◌≡◌, true, IfOk, MatchResult};
 ghost use Rattle.boc_plans.specs.Seen.{seen};
 ghost use Rattle.boc_greedy.specs.Curves.{IsCurve};
-ghost use Rattle.boc_commands.specs.NamedRuns.{AreFew, IsOfNamedRun, IsShort};
+ghost use Rattle.boc_run_commands.specs.NamedRuns.{AreFew, IsOfNamedRun, IsShort};
 ghost use Rattle.boc_view.specs.Materials.{HasParts, IsFound, IsMaterial, IsPart, IsPlanFor, IsProgramShown};
 ghost use Rattle.boc_view.specs.Materials.{curve_workers, page_workers, shows_costs, shows_curve};
 
 use crate::found::{Found, found_of};
 use crate::wanted::{Picture, Wanted};
 use boc_busy::TimedRows;
-use boc_commands::named_run::{RECORD_WORD, named_run};
-use boc_commands::timed_note::{other_run, timed_note_on};
 use boc_commands::{Fault, NamedRun, Origin};
 use boc_greedy::{CurvePoint, Greedy, greedy};
 use boc_names::Names;
@@ -19,6 +17,8 @@ use boc_pictures::Subject;
 use boc_plans::sharing::Sharing;
 use boc_program::count::Workers;
 use boc_progress::Progress;
+use boc_run_commands::named_run::{RECORD_WORD, named_run};
+use boc_run_commands::timed_note::{other_run, timed_note_on};
 use boc_runs::rows::Rows;
 use boc_whatif::WhatIf;
 use boc_workers::Gate;

@@ -1,11 +1,11 @@
 use Rattle.std.proofs.Common.{List, Err, rules, subst, sym}
 use Rattle.boc_words.specs.declared.words.Command.{Command}
-use Rattle.boc_commands.specs.declared.program_input.Supplied.{Supplied}
-use Rattle.boc_commands.specs.Commands.{RefusesRecord}
+use Rattle.boc_plan_commands.specs.declared.program_input.Supplied.{Supplied}
+use Rattle.boc_run_commands.specs.Commands.{RefusesRecord}
 use Rattle.boc_commands.specs.EveryCommand.{RefusesCommand}
-use Rattle.boc_commands.specs.ProgramInputs.{IsOfProgramRun, RefusesEither, supplied_to}
-use Rattle.boc_commands.specs.SweepAnswers.{RefusesSweep}
-use Rattle.boc_commands.specs.WhatIfAnswers.{IsOfWhatIf, RefusesWhatIf}
+use Rattle.boc_plan_commands.specs.ProgramInputs.{IsOfProgramRun, RefusesEither, supplied_to}
+use Rattle.boc_plan_commands.specs.SweepAnswers.{RefusesSweep}
+use Rattle.boc_plan_commands.specs.WhatIfAnswers.{IsOfWhatIf, RefusesWhatIf}
 use Rattle.boc_commands.proofs.command.run_command.Goals as goal
 
 pub returns-in-Run-clause-written : goal.returns-in-Run-clause-written

@@ -1,6 +1,6 @@
 use Rattle.boc_plans.specs.Seen.{seen}
 use Rattle.boc_plans.proofs.Seeing.{rows_seen}
-use Rattle.boc_commands.proofs.Promised.{best, within_bound}
+use Rattle.boc_run_commands.proofs.Promised.{best, within_bound}
 use Rattle.boc_commands.proofs.laws.answers_are_true.Goals as goal
 
 pub returns-clause-best : goal.returns-clause-best

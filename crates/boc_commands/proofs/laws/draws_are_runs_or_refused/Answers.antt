@@ -1,4 +1,4 @@
-use Rattle.boc_commands.proofs.Seeding.{full_draw, run_or_full}
+use Rattle.boc_run_commands.proofs.Seeding.{full_draw, run_or_full}
 use Rattle.boc_commands.proofs.laws.draws_are_runs_or_refused.Goals as goal
 
 pub returns : goal.returns

@@ -1,5 +1,5 @@
 use Rattle.boc_record.proofs.OneFault.{one_record}
-use Rattle.boc_commands.specs.declared.program_input.Supplied.TheVariants.{Record}
+use Rattle.boc_plan_commands.specs.declared.program_input.Supplied.TheVariants.{Record}
 use Rattle.boc_commands.proofs.OneOfEither.{one_program_curve, one_program_profile, one_program_sweep, one_program_whatif}
 use Rattle.boc_commands.proofs.laws_of_names.program_run_in_a_file_has_one_answer.Goals as goal
 

@@ -1,5 +1,5 @@
 use Rattle.std.proofs.Common.{ℕ, List, Option, subst, sym}
-use Rattle.boc_commands.specs.TimedNotes.{IsNoteFor, IsOther, workers_compared}
+use Rattle.boc_run_commands.specs.TimedNotes.{IsNoteFor, IsOther, workers_compared}
 use Rattle.boc_view.specs.Materials.{IsProgramShown, shows_costs, workers_shown}
 use Rattle.boc_view.proofs.material.material_of.Goals as goal
 

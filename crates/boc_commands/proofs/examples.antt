@@ -1,2 +1,0 @@
-pub mod BesideTransfer
-pub mod SmallNames

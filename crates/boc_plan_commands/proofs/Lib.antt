@@ -1,0 +1,14 @@
+pub mod BestEnds
+pub mod MeantParts
+pub mod EditedParts
+pub mod EarlyRows
+pub mod WhatIfParts
+pub mod WhatIfNamed
+pub mod SameNames
+pub mod CownsParts
+pub mod ProgramRuns
+pub mod ToldParts
+pub mod SweptLines
+pub mod ByRows
+pub mod NumberedRuns
+pub mod examples

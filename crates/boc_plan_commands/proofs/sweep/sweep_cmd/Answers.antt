@@ -1,0 +1,55 @@
+use Rattle.std.proofs.Common.{ℕ, inl, inr, List, Err, subst}
+use Rattle.boc_run_commands.specs.Commands.{CountsSource}
+use Rattle.boc_plan_commands.specs.ProgramInputs.{IsOfProgramRun, RefusesEither}
+use Rattle.boc_plan_commands.specs.SweepAnswers.{IsRecordSweep, RefusesSweep}
+use Rattle.boc_run_commands.proofs.Passed.{refuses_nothing}
+use Rattle.boc_plan_commands.proofs.ProgramRuns.{leaves_kept, leaves_program, none_taken, refused_program, refused_record, some_taken}
+use Rattle.boc_plan_commands.proofs.ToldParts.{program_sweep}
+use Rattle.boc_plan_commands.proofs.sweep.sweep_cmd.Goals as goal
+
+pub returns-in_default-clause-written : goal.returns-in_default-clause-written
+returns-in_default-clause-written g c =
+    leaves_kept _ _ c.record_sweep.result _ _ _ _ _ (none_taken c.in_ok-found.found _ _ c.in_default.is c.in_ok-found.ensures.taken).0
+    (λ input output answer. inl (subst (λ (file : List ℕ). IsRecordSweep c.args.asked c.args.supplied file input output)
+    c.deref.ensures.value answer)) c.record_sweep.ensures.written
+
+pub returns-in_default-clause-refused : goal.returns-in_default-clause-refused
+returns-in_default-clause-refused g c =
+    let none = none_taken c.in_ok-found.found _ _ c.in_default.is c.in_ok-found.ensures.taken in
+    refused_record (λ result bytes. RefusesSweep c.args.supplied c.args.bytes.items result bytes)
+    (IsOfProgramRun g.G.Gate.always_on c.args.asked.schedule c.args.supplied c.args.bytes.items)
+    c.record_sweep.result (g.S.Source.remaining c.args.source.now) (g.S.Source.remaining c.program_taken.new.source)
+    (g.S.Source.remaining c.record_sweep.new.source) none.1 none.0
+    (subst (λ (file : List ℕ). RefusesSweep c.args.supplied file c.record_sweep.result (g.S.Source.remaining c.program_taken.new.source))
+    c.deref.ensures.value c.record_sweep.ensures.refused)
+
+pub returns-in_default-clause-source : goal.returns-in_default-clause-source
+returns-in_default-clause-source g c =
+    subst (λ (n : ℕ). CountsSource c.record_sweep.result n (g.S.Source.failures c.record_sweep.new.source)) c.in_ok-found.ensures.failures
+    c.record_sweep.ensures.source
+
+pub returns-clause-written : goal.returns-clause-written
+returns-clause-written g c =
+    leaves_program _ _ c.swept_run.result _ _ _ _ c.in-Some.text.items
+    (some_taken c.in_ok-found.found c.in-Some.text _ _ c.in-Some.is c.in_ok-found.ensures.taken)
+    c.in_ok-run.ensures.1 (λ output told. inr (program_sweep c.args.asked c.args.supplied c.args.bytes.items c.in-Some.text.items c.in_ok-run.run'
+    c.are_named-named.result output c.in_ok-run.ensures.0 c.are_named-named.ensures told)) c.swept_run.ensures.written
+
+pub returns-clause-refused : goal.returns-clause-refused
+returns-clause-refused g c =
+    refuses_nothing (λ r. RefusesEither (λ fault bytes. RefusesSweep {A = Unit {0}} c.args.supplied c.args.bytes.items (Err fault) bytes)
+    (IsOfProgramRun g.G.Gate.always_on c.args.asked.schedule c.args.supplied c.args.bytes.items)
+    r (g.S.Source.remaining c.args.source.now) (g.S.Source.remaining c.program_taken.new.source)) tt (λ w. tt) c.swept_run.result
+    c.swept_run.ensures.refused
+
+pub returns-clause-source : goal.returns-clause-source
+returns-clause-source g c =
+    subst (λ (n : ℕ). CountsSource c.swept_run.result n (g.S.Source.failures c.program_taken.new.source)) c.in_ok-found.ensures.failures
+    (c.swept_run.ensures.source _)
+
+pub returns-in_err-run-clause-refused : goal.returns-in_err-run-clause-refused
+returns-in_err-run-clause-refused g c =
+    refused_program (λ fault bytes. RefusesSweep {A = Unit {0}} c.args.supplied c.args.bytes.items (Err fault) bytes)
+    (IsOfProgramRun g.G.Gate.always_on c.args.asked.schedule c.args.supplied c.args.bytes.items)
+    _ c.in_err-run.field-0.0 _ _ c.in-Some.text.items c.from_residual-in_err-run.ensures.1
+    (some_taken c.in_ok-found.found c.in-Some.text _ _ c.in-Some.is c.in_ok-found.ensures.taken) c.in_err-run.ensures

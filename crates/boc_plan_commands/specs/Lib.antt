@@ -1,0 +1,9 @@
+pub mod BestAnswers
+pub mod ProgramInputs
+pub mod SweepAnswers
+pub mod OrderAnswers
+pub mod WhyAnswers
+pub mod CownsAnswers
+pub mod Asked
+pub mod WhatIfAnswers
+pub mod Tells

@@ -1,0 +1,14 @@
+pub mod Asked
+pub mod Promised
+pub mod Passed
+pub mod Timing
+pub mod Noting
+pub mod Seeding
+pub mod Drawing
+pub mod OneProgram
+pub mod BesideFiles
+pub mod RunNames
+pub mod TakenRuns
+pub mod GivenRuns
+pub mod examples
+pub mod ToldNames

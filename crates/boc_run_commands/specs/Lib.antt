@@ -1,0 +1,12 @@
+pub mod CheckTexts
+pub mod Answers
+pub mod Faults
+pub mod Promises
+pub mod Commands
+pub mod NamedRuns
+pub mod TimedAnswers
+pub mod TimedNotes
+pub mod OutcomesAnswers
+pub mod Beside
+pub mod Schedules
+pub mod Notes

@@ -15,6 +15,7 @@ use Rattle.boc_names.specs.declared.names.Names.{Names}
 use Rattle.boc_remedies.specs.Advice.{IsAdvised}
 use Rattle.boc_remedies.specs.Questions.{Asked}
 use Rattle.boc_advice_report.specs.declared.workers.ForWorkers.{ForWorkers}
+use Rattle.boc_why_report.specs.WhyTexts.{chain_told}
 use Rattle.boc_pictures.specs.Subjects.{IsSubject}
 use Rattle.boc_run_commands.specs.declared.named_run.NamedRun.{NamedRun}
 use Rattle.boc_plan_commands.specs.CownsAnswers.{AreJudged}
@@ -123,10 +124,11 @@ IsPlanFor rows sharing None None = Unit {0}
 abbrev pub page_question : List Row → Names → Sharing → ℕ → Asked
 page_question rows names sharing workers = asked_of rows names sharing (Some workers)
 
--- What a page says of rows with these names, for so many workers: why they take as long as they do and what would help, another order, what the cowns
--- cost, and these in the order of the ends of the greedy plan without them.
+-- What a page says of rows with these names, for so many workers: why they take as long as they do and what would help, their chain, another order, what the
+-- cowns cost, and these in the order of the ends of the greedy plan without them.
 pub record IsFound (rows : List Row) (names : Names) (sharing : Sharing) (workers : ℕ) (found : Found) : Type 0 where
   pub advised : IsAdvised (page_question rows names sharing workers) found.advised
+  pub chain : found.chain.items ≡ chain_told names false found.advised.why
   pub order : IsOtherOrder (seen sharing rows) found.advised.why.profile.span found.order
   pub hot : IsHotCowns rows sharing (length names.families.items) found.hot
   pub for_workers : ForWorkers

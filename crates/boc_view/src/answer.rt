@@ -80,7 +80,8 @@ fn put_over(text: &mut Vec<u8>, more: usize, rows: usize) -> Result<(), AllocErr
     }
     text.extend_from_slice(b"boc: note: ")?;
     put_number(text, rows as u64)?;
-    text.extend_from_slice(b" rows are many for a drawing: see boc-view page\n")
+    text.extend_from_slice(b" rows are many for a drawing: see boc-view page\n")?;
+    Ok(())
 }
 
 // Returns the picture that is made of this.
@@ -115,10 +116,10 @@ fn on_workers(alloc: Global, material: &Material) -> Result<Vec<WorkerPlan<'_>>,
 }
 
 // Returns the plans as a drawing, with the cowns or without them.
-fn plan_of(
+fn plan_of<'a>(
     alloc: Global,
-    wanted: &Wanted,
-    material: &Material,
+    wanted: &'a Wanted,
+    material: &'a Material,
     is_program: bool,
     cowns: bool,
 ) -> Result<Vec<u8>, AllocError> {
@@ -131,14 +132,18 @@ fn plan_of(
             run: &run,
         },
         is_program,
-        plans: &plans,
+        plans: plans.as_slice(),
         cowns,
     };
     plan_drawing(alloc, &drawn)
 }
 
 // Returns the curve as a drawing.
-fn curve_of(alloc: Global, wanted: &Wanted, material: &Material) -> Result<Vec<u8>, AllocError> {
+fn curve_of<'a>(
+    alloc: Global,
+    wanted: &'a Wanted,
+    material: &'a Material,
+) -> Result<Vec<u8>, AllocError> {
     let Some(points) = &material.points else {
         return Ok(Vec::new(alloc));
     };

@@ -15,6 +15,7 @@ use boc_program::count::Workers;
 use boc_progress::Progress;
 use boc_remedies::{Advised, Question, advise};
 use boc_runs::rows::Rows;
+use boc_why_report::put_chain;
 use std::alloc::{AllocError, Global};
 use std::thread::Threads;
 
@@ -23,6 +24,8 @@ use std::thread::Threads;
 pub(crate) struct Found {
     /// Why the rows take as long as they do, and what would help.
     pub advised: Advised,
+    /// The chain, step by step, and its ticks by def and by link, a line each.
+    pub chain: Vec<u8>,
     /// An order that ends before the span, if one was found.
     pub order: Option<OtherOrder>,
     /// What the cowns cost.
@@ -52,11 +55,14 @@ pub(crate) fn found_of<R: Threads + Sync>(
         workers: Some(workers),
     };
     let advised = advise(rt, alloc, &question)?;
+    let mut chain = Vec::new(alloc);
+    put_chain(alloc, &mut chain, names, false, &advised.why)?;
     let order = other_order(alloc, &question, advised.why.profile.span)?;
     let hot = hot_cowns(rt, alloc, rows, sharing, names.families.len() as u32)?;
     let (_, judged) = judged(rt, alloc, &question, workers, &hot, progress)?;
     Ok(Found {
         advised,
+        chain,
         order,
         hot,
         judged,

@@ -10,7 +10,7 @@ use boc_greedy::{CurvePoint, Greedy};
 use boc_page::{Block, data_block, defs_of};
 use boc_pictures::{Page, Sentences, page_text, plan_text};
 use boc_text::put_number;
-use boc_why_report::{put_chain, put_least, workers_word};
+use boc_why_report::{put_least, workers_word};
 use std::alloc::{AllocError, Global};
 
 // How many columns the plan in text has.
@@ -71,8 +71,6 @@ fn made(
         lines: &[],
     };
     let data = data_block(alloc, &block)?;
-    let mut chain = Vec::new(alloc);
-    put_chain(alloc, &mut chain, names, false, &found.advised.why)?;
     let plan = plan_text(alloc, subject, COLUMNS)?;
     let page = Page {
         subject,
@@ -84,7 +82,7 @@ fn made(
         points,
         judged: &found.judged,
         sentences: &sentences,
-        chain: &chain,
+        chain: &found.chain,
         plan: plan.as_bytes(),
         program,
         lines: &[],

@@ -7,43 +7,45 @@ import tempfile
 
 from .chromium import Chromium, Lost, Tab
 from .packages import command_of
-from .painted import places_in
+from .painted import boxes_in, places_in
 from .copies import view_of
 from .pictures import the_most_rows
 from .why import rows_of
 
 # How large the window is: all of a drawing has room in it.
-WIDTH, HEIGHT = 1240, 1760
+WIDTH, HEIGHT = 1000, 2400
 
 # From how many rows on a drawing is large: less of it is looked at then, since all of it takes longer.
 MANY = 1_000
 
-# Of a drawing, while a mouse that is only told of goes over some of its bars: how many bars it draws, what their titles say, which of them stand in the group
-# of another colour, what is over them, over how many marks of spawns nothing has a title, and how wide all of it is.
+# From how many rows on a drawing has a lane for each def in place of each row.
+FOLDED = 61
+
+# Of a drawing, while a mouse that is only told of goes over some of its bars: how many bars it draws, what their titles say, what is over them, over how many
+# marks of spawns nothing has a title, how many strips the chain has, how many rows its lanes of defs have, and how wide all of it is.
 LOOK = r"""most => {
   const drawing = document.querySelector('svg');
-  const titles = Array.from(drawing.querySelectorAll('path > title')).filter(it => /^row \d+\b.*: \d+ to \d+/.test(it.textContent));
-  const texts = titles.map(it => it.textContent);
-  const says = what => what && what.querySelector(':scope > title');
+  const bars = Array.from(drawing.querySelectorAll('g[id^=r] > title + path'));
+  const texts = bars.map(it => it.previousElementSibling.textContent);
+  const says = what => what && (what.querySelector(':scope > title') || what.closest('g')?.querySelector(':scope > title'));
   const over = bar => {
     bar.scrollIntoView({block: 'center', inline: 'center'});
     const is = bar.getBoundingClientRect(), parts = [0.1, 0.3, 0.5, 0.7, 0.9];
     const under = parts.flatMap(right => parts.map(down => document.elementFromPoint(is.left + is.width * right, is.top + is.height * down)));
     const strange = under.filter(it => it !== bar && !says(it)).map(it => it ? it.getAttribute('class') || it.tagName : 'nothing');
-    return {id: bar.id, found: is.width < 1 || under.includes(bar), strange: strange};
+    return {id: bar.parentNode.id, found: is.width < 1 || under.includes(bar), strange: strange};
   };
-  const step = Math.max(1, Math.ceil(titles.length / most));
-  const bars = titles.filter((it, number) => number % step === 0 || number === titles.length - 1).map(it => over(it.parentNode));
+  const step = Math.max(1, Math.ceil(bars.length / most));
+  const looked = bars.filter((it, number) => number % step === 0 || number === bars.length - 1).map(it => over(it));
   scrollTo(0, 0);
-  const place = drawing.getBoundingClientRect();
-  const marks = Array.from((drawing.querySelector('path.spawns') || drawing).getAttribute('d')?.matchAll(/M([\d.]+) ([\d.]+)V([\d.]+)/g) || []);
-  const blind = marks.filter(([all, x, y, end]) => {
-    const under = document.elementFromPoint(place.left + Number(x), place.top + (Number(y) + Number(end)) / 2);
-    return under && drawing.contains(under) && !says(under);
+  const place = drawing.getBoundingClientRect(), spawns = bars.length && drawing.querySelector('path.spawns')?.getAttribute('d') || '';
+  const blind = Array.from(spawns.matchAll(/M([\d.]+) ([\d.]+)V([\d.]+)/g)).filter(([all, x, y, end]) => {
+    const under = document.elementFromPoint(place.left + Number(x) - 0.6, place.top + (Number(y) + Number(end)) / 2);
+    return under && drawing.contains(under) && under !== drawing && !says(under);
   });
-  return {drawn: ['bars', 'chain'].map(it => drawing.querySelector('g.' + it)?.childElementCount ?? 0),
-    titles: texts, bars: bars, blind: blind.length,
-    astray: texts.filter((it, number) => / ticks/.test(it) && /; the chain goes through /.test(it) !== (titles[number].closest('g').matches('.chain'))),
+  const folds = Array.from(drawing.querySelectorAll('text.n:not(.narrow)'), it => /^▸ .*, (\d+)$/.exec(it.textContent)).filter(Boolean);
+  return {titles: texts, bars: looked, blind: blind.length, strips: (drawing.querySelector('path.chain')?.getAttribute('d') || '').split('M').length - 1,
+    chain: texts.filter(it => /; the chain goes through /.test(it)).length, folded: folds.reduce((sum, it) => sum + Number(it[1]), 0),
     wide: document.documentElement.scrollWidth};
 }"""
 
@@ -51,11 +53,11 @@ LOOK = r"""most => {
 IS_BROKEN = "() => document.querySelector('parsererror') !== null"
 
 # The bar of a row.
-BAR = r"""row => Array.from(document.querySelectorAll('path > title')).find(it => RegExp(`^row ${row}\\b.*: \\d+ to \\d+`).test(it.textContent))?.parentNode"""
+BAR = """row => document.querySelector(`#r${row} > title + path`)"""
 
 # Where in the window, at whole pixels as a mouse has them, it finds the bar of a row, and the bar's title; nothing where it finds it nowhere.
 PLACE = r"""row => {
-  const bar = window.bar = (BAR)(row), title = bar.querySelector('title').textContent;
+  const bar = window.bar = (BAR)(row), title = bar.previousElementSibling.textContent;
   bar.scrollIntoView({block: 'center', inline: 'center'});
   const is = bar.getBoundingClientRect();
   for (const part of [0.5, 0.6, 0.4, 0.7, 0.3, 0.8, 0.2, 0.9, 0.1])
@@ -67,7 +69,7 @@ PLACE = r"""row => {
 }""".replace("BAR", BAR)
 
 # Whether the mouse is over that bar, and the title of the bar.
-TOLD = "() => [window.bar.matches(':hover'), window.bar.querySelector('title').textContent]"
+TOLD = "() => [window.bar.matches(':hover'), window.bar.previousElementSibling.textContent]"
 
 # The colours of a picture in these places.
 COLOURS = """async (picture, places) => {
@@ -83,12 +85,11 @@ COLOURS = """async (picture, places) => {
 # What is wrong with a drawing: what stands there, what is put in its place, and a word of what is to be said of it.
 OUTSIDE = "http://boc.invalid/it"
 BROKEN = [
-    (";pointer-events:none}", "}", "spawns"),
-    (r'(?s)(<path id="r3".*?</path>\n)</g>\n<g class="chain">\n', r'</g>\n<g class="chain">\n\1', "wrong group"),
-    ("#8ab6dc", "#8ab6dd", "the colour of bars"),
-    ("#c2410c", "#c2400c", "the colour of chain"),
-    ("#f0a880", "#f0a881", "the colour of rest"),
-    ("#f97316", "#c2410c", "dark"),
+    (r"(\.spawns\{[^}]*);pointer-events:none\}", r"\1}", "spawns"),
+    (r'(?s)<g id="r3"><title>[^<]*</title>', '<g id="r3">', "titles"),
+    ("#4c78a8", "#4c78a9", "the colour of c1"),
+    ("#c8410c;pointer", "#c8400c;pointer", "the colour of chain"),
+    ("#ff7a3d", "#c8410c", "dark"),
     ("scheme:dark", "scheme:light", "the colour of ground"),
     ("</svg>", f'<image href="{OUTSIDE}.png" width="9" height="9"/></svg>', OUTSIDE),
     ("</g>", "", "whole"),
@@ -154,8 +155,9 @@ class Opened:
         self.tab.open(path)
         if self.tab.ask(IS_BROKEN):
             return "it can't be read whole"
-        places = places_in(text[text.index("<svg"):text.index("</svg>")])
-        return (self.fault_of_events(path) or self.fault_of_colours(places) or self.fault_of_bars(count) or self.fault_of_mouse(count)
+        drawing = text[text.index("<svg"):text.index("</svg>")]
+        places, is_thin = places_in(drawing), all(box.right - box.left < 8 for box in boxes_in(drawing))
+        return (self.fault_of_events(path) or self.fault_of_colours(places, is_thin) or self.fault_of_bars(count) or self.fault_of_mouse(count)
                 or self.fault_of_events(path))
 
     def fault_of_events(self, path):
@@ -169,7 +171,7 @@ class Opened:
             return f"its console says {it['entry']['text'] if 'entry' in it else [said.get('value') for said in it['args']]}"
         return None
 
-    def fault_of_colours(self, places):
+    def fault_of_colours(self, places, is_thin):
         """Each place has the colour of its group, in light and in dark, beginning with the one that there is."""
         self.schemes.sort(key=lambda it: it != self.tab.scheme)
         for scheme in self.schemes:
@@ -178,16 +180,18 @@ class Opened:
             fault = next(filter(None, (place.fault_of(tuple(colour), scheme) for place, colour in zip(places, colours))), None)
             if fault is not None:
                 return fault
-        return None if any(it.group != "ground" for it in places) else "no bar in it can be told by its colour"
+        return None if is_thin or any(it.group != "ground" for it in places) else "nothing in it can be told by its colour"
 
     def fault_of_bars(self, count):
-        """There is a bar for each row, with its title, which a mouse finds; and nothing else is wrong with what stands there."""
+        """There is a bar for each row, with its title, which a mouse finds, or lanes of all rows; and nothing else is wrong with what stands there."""
         found = self.tab.ask(LOOK, 24 if count < MANY else 8)
-        rows = sorted(int(re.match(r"row (\d+)", it).group(1)) for it in found["titles"])
+        rows = sorted(int(re.match(r"row (\d+)\b.*: \d+ to \d+", it).group(1)) for it in found["titles"])
         over = [bar for bar in found["bars"] if bar["strange"] or not bar["found"]]
+        drawn = list(range(count)) if count < FOLDED else []
         faults = [
-            (sum(found["drawn"]) != count or rows != list(range(count)), f"of {count} rows it draws {found['drawn']} bars, and has {len(rows)} titles"),
-            (found["astray"], f"in the wrong group there is {found['astray'][:1]}"),
+            (rows != drawn, f"of {count} rows it draws {len(rows)} bars with titles"),
+            (count >= FOLDED and found["folded"] != count, f"of {count} rows its lanes have {found['folded']}"),
+            (not found["strips"] or rows and found["strips"] > found["chain"], f"the chain has {found['strips']} strips, and goes through {found['chain']} rows"),
             (over, f"over bars a mouse finds other things: {over[:1]}"),
             (found["blind"], f"over {found['blind']} marks of spawns a mouse finds nothing that has a title"),
             (found["wide"] > WIDTH, f"it is {found['wide']} pixels wide"),
@@ -196,6 +200,8 @@ class Opened:
 
     def fault_of_mouse(self, count):
         """A mouse that moves over a bar is over it, and one that has left it isn't."""
+        if count >= FOLDED:
+            return None
         moved = 0
         for row in dict.fromkeys([0, count - 1, count // 2, count // 3, count // 5, count - 2, 1]):
             found = self.tab.ask(PLACE, row) if 0 <= row < count and moved < (3 if count < MANY else 1) else None

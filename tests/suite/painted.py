@@ -3,12 +3,13 @@ import re
 from math import ceil, floor
 from typing import NamedTuple
 
-# The colours of a drawing, in light and in dark: behind all, of bars off the chain, of those on it, and of what it doesn't go through.
-COLOURS = {"light": {"ground": (255, 255, 255), "bars": (138, 182, 220), "chain": (194, 65, 12), "rest": (240, 168, 128)},
-           "dark": {"ground": (22, 24, 29), "bars": (63, 120, 168), "chain": (249, 115, 22), "rest": (138, 74, 32)}}
+# The colours of defs, in light and in dark: that of main, or of rows without a name, the ten of the first defs, and those of more.
+DEFS = ["7f8a99", "4c78a8", "4a9641", "a8699a", "bb8500", "2a948e", "9d755d", "7b6cc4", "d0658a", "7a9040", "4a8fbf", "a761ae", "7a8745", "577fa8", "af6473", "478a4d",
+        "886eb4", "8d7749", "458784", "ae619a", "648745", "6b77b3", "ac685d", "458761", "9b68b1", "878745", "4e8197"]
 
-# The groups of bars, each over those before it.
-GROUPS = ["bars", "chain", "rest"]
+# The colours of a drawing: behind all, of the strip of the chain, and of bars by their def.
+BARS = {f"c{number}": tuple(bytes.fromhex(it)) for number, it in enumerate(DEFS)}
+COLOURS = {"light": {"ground": (255, 255, 255), "chain": (200, 65, 12), **BARS}, "dark": {"ground": (20, 23, 26), "chain": (255, 122, 61), **BARS}}
 
 # How far the edge of a bar reaches, in pixels that are drawn.
 EDGE = 1
@@ -56,12 +57,12 @@ class Place(NamedTuple):
 
 
 def places_in(drawing):
-    """Places behind all, and in bars."""
+    """Places behind all, in bars above their text, and in the strips of the chain."""
     boxes = boxes_in(drawing)
     lines = [Box("", min(y, end) - 1, x - 1.3, x + 1.3, max(y, end) + 1) for x, y, end in lines_in(drawing)]
-    places = [Place("ground", 3, 3), Place("ground", 1100, 40)]
-    for number, group in enumerate(GROUPS):
-        above = lines + [box for box in boxes if box.group in GROUPS[number + 1:]]
+    places = [Place("ground", 3, 3), Place("ground", 990, 60)]
+    for group in dict.fromkeys(box.group for box in boxes):
+        above = lines + [box for box in boxes if box.group == "chain" != group]
         own = [box for box in joined(boxes) if box.group == group and box.right - box.left >= 3]
         for box in own[::max(1, len(own) // MOST)]:
             places += [Place(group, x, y, box.is_wide()) for x, y in pixels_in(box) if not any(it.meets(x, y) for it in above)]
@@ -69,13 +70,15 @@ def places_in(drawing):
 
 
 def boxes_in(drawing):
-    """The bars of a drawing, group by group, lane by lane."""
+    """The bars of rows, as far as no text is over them, and the strips of the chain in them, lane by lane; none in a lane of many rows."""
     boxes = []
-    for group, inner in re.findall(r'<g class="(bars|chain|rest)">\n(.*?)</g>', drawing, re.DOTALL):
-        for numbers in re.findall(r'd="M([\d.]+) ([\d.]+)h([\d.]+)v([\d.]+)', inner):
-            left, top, width, height = map(float, numbers)
-            boxes.append(Box(group, top, left, left + width, top + height))
-    return sorted(boxes)
+    for group, left, top, width in re.findall(r'<g id="r\d+"><title>[^<]*</title><path class="(c\d+)" d="M([\d.]+) ([\d.]+)h([\d.]+)', drawing):
+        boxes.append(Box(group, float(top), float(left), float(left) + float(width), float(top) + 4))
+    strips = re.search(r'<path class="chain" d="([^"]*)"', drawing)
+    for numbers in re.findall(r"M([\d.]+) ([\d.]+)h([\d.]+)v([\d.]+)", strips[1] if strips else ""):
+        left, top, width, height = map(float, numbers)
+        boxes.append(Box("chain", top, left, left + width, top + height))
+    return sorted(boxes, key=lambda box: (box.group == "chain", box))
 
 
 def joined(boxes):
@@ -92,7 +95,7 @@ def joined(boxes):
 
 def lines_in(drawing):
     """The lines over bars: links, marks of spawns, and the ends of a greedy plan. Of each its place across, and from where to where it goes."""
-    over = drawing.partition('<g class="bars">')[2]
+    over = drawing.partition('<path class="spawns"')[2]
     return [tuple(map(float, it)) for it in re.findall(r"M([\d.]+) ([\d.]+)V([\d.]+)", over)]
 
 

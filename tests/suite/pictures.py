@@ -1032,8 +1032,8 @@ def words(view):
 
 
 def called(answer, name):
-    """An answer with this name of a file in place of that of standard input."""
-    return dataclasses.replace(answer, output=answer.output.replace(b"standard input", name))
+    """An answer with this name of a file in place of that of standard input, but in the script of a page."""
+    return dataclasses.replace(answer, output=answer.output.replace(b"standard input", name).replace(b"=== '" + name + b"'", b"=== 'standard input'"))
 
 
 def operands(view):

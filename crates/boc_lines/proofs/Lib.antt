@@ -1,0 +1,14 @@
+pub mod Agreeing
+pub mod Having
+pub mod Numbering
+pub mod Walking
+pub mod Tallies
+pub mod Replaying
+pub mod Serially
+pub mod Places
+pub mod Alongside
+pub mod Running
+pub mod Chaining
+pub mod Lining
+pub mod Found
+pub mod Sizing

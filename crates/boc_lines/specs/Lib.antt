@@ -1,0 +1,10 @@
+pub mod Charges
+pub mod Replays
+pub mod SerialRuns
+pub mod Wished
+pub mod Chained
+pub mod Numbers
+pub mod Sizes
+pub mod Books
+pub mod Walks
+pub mod Lines

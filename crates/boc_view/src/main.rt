@@ -6,6 +6,7 @@ ghost use Rattle.std.specs.Prelude.{◌<◌};
 mod answer;
 mod explaining;
 mod found;
+mod lines;
 mod material;
 mod page;
 mod wanted;

@@ -4,15 +4,18 @@ ghost use Rattle.std.specs.Prelude.{◌≡◌, true, IfOk, MatchResult};
 ghost use Rattle.boc_plans.specs.Seen.{seen};
 ghost use Rattle.boc_greedy.specs.Curves.{IsCurve};
 ghost use Rattle.boc_run_commands.specs.NamedRuns.{AreFew, IsOfNamedRun, IsShort};
+ghost use Rattle.boc_view.specs.Lines.{AreLinesFor};
 ghost use Rattle.boc_view.specs.Materials.{HasParts, IsFound, IsMaterial, IsPart, IsPlanFor, IsProgramShown};
 ghost use Rattle.boc_view.specs.Materials.{curve_workers, page_workers, shows_costs, shows_curve};
 
 use crate::found::{Found, found_of};
+use crate::lines::lines_of;
 use crate::wanted::{Picture, Wanted};
 use boc_busy::TimedRows;
 use boc_commands::{Fault, NamedRun, Origin};
 use boc_greedy::{CurvePoint, Greedy, greedy};
 use boc_names::Names;
+use boc_page::LineTicks;
 use boc_pictures::Subject;
 use boc_plans::sharing::Sharing;
 use boc_program::count::Workers;
@@ -38,6 +41,8 @@ pub(crate) struct Material {
     pub points: Option<Vec<CurvePoint>>,
     /// What a page says of the run.
     pub found: Option<Found>,
+    /// The ticks of the lines of the program that take some, where the picture shows the program.
+    pub lines: Vec<LineTicks>,
     /// The text of the program; no bytes where it isn't shown, or where the input is a record.
     pub program: Vec<u8>,
     /// The note that the timed run with which the run is compared has another span; no bytes where there is nothing to note.
@@ -87,12 +92,14 @@ fn parts_of<R: Threads + Sync>(
     requires { AreFew run.rows run.names }
     ensures parts { IfOk result (HasParts wanted.now run) }
     ensures program { IfOk result (λ material. material.program.items ≡ program.items) }
+    ensures lines { IfOk result (λ material. AreLinesFor program.items run.rows material.found material.lines.items) }
     ensures note { IfOk result (λ material. material.note.items ≡ note.items) }
 {
     let NamedRun { rows, names, times } = run;
     let greedy = plan_for(alloc, &rows, wanted.sharing, wanted.workers_shown())?;
     let points = points_for(rt, alloc, &rows, wanted)?;
     let found = found_for(rt, alloc, &rows, &names, wanted, progress)?;
+    let lines = lines_for(alloc, &program, &rows, &found)?;
     let times = if wanted.picture.shows_workers() {
         times
     } else {
@@ -105,6 +112,7 @@ fn parts_of<R: Threads + Sync>(
         times,
         points,
         found,
+        lines,
         program,
         note,
     })
@@ -129,6 +137,21 @@ fn program_of(alloc: Global, text: &[u8]) -> Result<Vec<u8>, AllocError>
         return Ok(Vec::new(alloc));
     }
     Vec::from_slice(alloc, text)
+}
+
+// Returns the ticks of the lines of the program, where a page says what was found of the rows.
+fn lines_for(
+    alloc: Global,
+    program: &[u8],
+    rows: &Rows,
+    found: &Option<Found>,
+) -> Result<Vec<LineTicks>, AllocError>
+    ensures { IfOk result (λ lines. AreLinesFor program.now rows.now found.now lines.items) }
+{
+    match found {
+        Some(found) => lines_of(alloc, program, rows, &found.advised.why.profile.chain.steps),
+        None => Ok(Vec::new(alloc)),
+    }
 }
 
 // Returns the greedy plan of rows for the given number of workers, where a number is given.

@@ -68,7 +68,7 @@ fn made(
         } else {
             Some(program)
         },
-        lines: &[],
+        lines: &material.lines,
     };
     let data = data_block(alloc, &block)?;
     let plan = plan_text(alloc, subject, COLUMNS)?;
@@ -85,7 +85,7 @@ fn made(
         chain: &found.chain,
         plan: plan.as_bytes(),
         program,
-        lines: &[],
+        lines: &material.lines,
         data: &data,
     };
     page_text(alloc, &page)

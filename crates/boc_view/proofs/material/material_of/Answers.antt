@@ -1,5 +1,6 @@
 use Rattle.std.proofs.Common.{ℕ, List, Option, subst, sym}
 use Rattle.boc_run_commands.specs.TimedNotes.{IsNoteFor, IsOther, workers_compared}
+use Rattle.boc_view.specs.Lines.{AreLinesFor}
 use Rattle.boc_view.specs.Materials.{IsProgramShown, shows_costs, workers_shown}
 use Rattle.boc_view.proofs.material.material_of.Goals as goal
 
@@ -22,6 +23,8 @@ returns g c =
         note = subst (λ (bytes : List ℕ). IsNoteFor c.args.text.items compared c.args.wanted.now.sharing c.in_ok-run.run'.rows bytes)
             (sym c.in_ok-material.ensures.note) (c.in_ok-note.ensures c.args.text.items compared other);
         program = subst (λ (bytes : List ℕ). IsProgramShown wanted c.args.text.items bytes) (sym c.in_ok-material.ensures.program) of_text;
+        lines = subst (λ (bytes : List ℕ). AreLinesFor bytes c.in_ok-run.run'.rows c.in_ok-material.material.found c.in_ok-material.material.lines.items)
+            (sym c.in_ok-material.ensures.program) c.in_ok-material.ensures.lines;
       },
       c.in_ok-run.ensures.1,
     )

@@ -367,10 +367,11 @@ class Opened:
         program = "cown a = 0;\ndef f(;x) { work 4; }\nmain { when f(;a); }\n"
         for name in FILES:
             shown = "".join(" " if it == "\t" else "?" if ord(it) < 32 or it == "\x7f" else it for it in name)
-            for content, words, heading in ((record, [], shown), (program, ["--record", f"./{name}"], "program.boc")):
-                with self.named_page(name, record, None, content if words else None, words):
+            for content, words, heading, how in ((record, [], shown, ""), (record, ["--record", f"./{name}"], "program.boc", f"the run in {shown} · "),
+                                                 ("= 1 late\n", ["--names", f"./{name}"], "program.boc", f"names in {shown} · ")):
+                with self.named_page(name, content, None, program if words else None, words):
                     title, run, turned = self.tab.ask(TITLE)
-                    if title != heading or words and not run.startswith(f"the run in {shown} · ") or turned or self.tab.ask("() => window.bad ?? 0"):
+                    if title != heading or not run.startswith(how) or turned or self.tab.ask("() => window.bad ?? 0"):
                         return f"{name!r}: its title is {title!r}, its run {run!r}, {turned}"
                     self.tab.ask("() => applyEdits({...noEdits(), scale: new Map([[rows.def[1], [1, 2]]])})")
                     fault = self.fault_of_sizes() or self.fault_of_command([[self.tab.ask("() => rows.def[1]"), [1, 2]]], [], [], 2)

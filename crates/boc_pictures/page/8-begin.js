@@ -13,11 +13,7 @@ function begin() {
   tellHead();
   layOut();
   state.view = {from: 0, to: whole() > 2.5 * told.span ? told.span * 1.04 : whole()};
-  draw();
-  tellBar();
-  tellLegend();
-  tellDetails();
-  listen();
+  for (const part of [draw, tellBar, tellLegend, tellDetails, listen]) part();
   setTimeout(() => {
     tellWhatIf();
     enhanceTables();

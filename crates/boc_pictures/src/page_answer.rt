@@ -131,6 +131,7 @@ fn put_verdict(text: &mut Vec<u8>, page: &Page<'_>) -> Result<(), AllocError> {
     put_many(text, u64::from(page.greedy.p), "worker")?;
     put(text, "</h2>\n")?;
     put_judged(text, &said.workers)?;
+    put_said(text, b"With a worker for each row:")?;
     put_judged(text, &said.cowns)?;
     put_said(text, &said.least)?;
     put_said(text, &said.order)?;

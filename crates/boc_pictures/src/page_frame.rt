@@ -219,6 +219,8 @@ figcaption { color: var(--soft); display: flex; flex-wrap: wrap; gap: 2px 16px; 
 }
 @media (pointer: coarse) { #keys span { display: none; } }
 @media (prefers-reduced-motion: no-preference) { button { transition: border-color .12s; } }
+[data-edited=true] > h2::after { content: ' of the run without edits'; color: var(--soft); font-weight: normal; }
+
 @media print {
   @page { size: A4; margin: 12mm; }
   :root, :root[data-theme=dark], :root:not([data-theme=light]) {
@@ -1663,10 +1665,10 @@ const quoted = word => /^[\w.=\/-]+$/.test(word) ? word : `'${String(word).repla
 function inputWords() {
   const {title, run} = told, path = name => quoted(name.replace(/^-/, './-'));
   const file = title === 'standard input' ? '-' : /[=@]/.test(title) ? `- < ${path(title)}` : path(title);
-  if (told.source === null) return (told.defs.some(Boolean) ? '--names NAMES ' : '') + file;
-  const ran = run.startsWith('the run in ') ? `--record ${path(run.slice(11))}`
-    : run.replace('timed on ', '--timed ').replace(/(\d+) workers?/, '-w $1').replace(/, (seed|depth)/g, ' --$1');
-  return `${ran} ${file}`.trimStart();
+  const [, how, names] = run.match(/^(.*?)(?:(?:^|, )names in (.*))?$/s), named = names === undefined ? '' : `--names ${path(names)} `;
+  const ran = told.source === null ? '' : how.startsWith('the run in ') ? `--record ${path(how.slice(11))}`
+    : how.replace('timed on ', '--timed ').replace(/(\d+) workers?/, '-w $1').replace(/, (seed|depth)/g, ' --$1');
+  return `${ran} ${named}${file}`.trimStart();
 }
 function commandOf({scale, early, without}) {
   const cownWord = cown => /^[-+\d]/.test(told.cowns[cown]) || cownsNamed(told.cowns[cown]).length > 1 ? cown : told.cowns[cown];
@@ -1687,17 +1689,19 @@ const undo = () => {
 };
 function tellResult() {
   const {base, now, edits} = state, is = isEdited(edits);
-  const mark = el('span', {class: 'edited'}, `what if: ${toldEdits(edits)}`, button('undo', undo));
-  put('viewer-title', 'The plan', ...(is && !state.refused ? [mark] : []));
+  put('viewer-title', 'The plan', ...(is && !state.refused ? [el('span', {class: 'edited'}, `what if: ${toldEdits(edits)}`, button('undo', undo))] : []));
+  for (const id of ['tables', 'curve']) byId(id).dataset.edited = is;
   if (state.refused) return put('result', `Refused: ${state.refused}. `, button('undo', undo));
   if (!is) return put('result', 'Move a slider or leave out a cown: plan, chain and ends change at once. Behaviours keep their order on each cown.');
-  const before = base.greedy(state.workers).end, after = now.greedy(state.workers).end, sums = chainSums(now);
+  const p = state.workers, before = base.greedy(p).end, after = now.greedy(p).end, sums = chainSums(now);
   const defs = sums.defs.slice(0, 3).map(sum => `${defName(sum.key)} ${percent(sum.ticks, now.span)}`).join(', ');
   const words = commandOf(edits), few = words.length < 300 ? words : [`(a command of ${num(words.length)} words)`];
-  const chain = `the chain then: ${defs}; ${sums.links[0].key} ${percent(sums.links[0].ticks, now.span)}`;
+  // Without a seed, threads may make another run for each call.
+  const anew = /^([2-9]|\d\d+) workers(, names in |$)/.test(told.run) ? 'Threads make a new run for it: numbers may differ, but not with --seed.' : '';
+  const chain = `the chain then: ${defs}; heaviest link: ${sums.links[0].key} ${percent(sums.links[0].ticks, now.span)}`;
   put('result', changeOf('span', base.span, now.span), changeOf('work', base.work, now.work),
-    changeOf(`${many(state.workers, 'worker')} end at`, before, after), el('span', {class: 'change'}, chain), button('undo', undo),
-    el('a', {href: `#edit=${addressOf(edits)}`}, 'link to these edits'), el('code', {}, ...few.flatMap(word => [el('bdi', {}, word), ' '])));
+    changeOf(`${many(p, 'worker')} end${p === 1 ? 's' : ''} at`, before, after), el('span', {class: 'change'}, chain), button('undo', undo),
+    el('a', {href: `#edit=${addressOf(edits)}`}, 'link to these edits'), el('code', {}, ...few.flatMap(word => [el('bdi', {}, word), ' '])), anew);
 }
 
 // The beginning. What the page computes must agree with the plans in the data block.
@@ -1715,11 +1719,7 @@ function begin() {
   tellHead();
   layOut();
   state.view = {from: 0, to: whole() > 2.5 * told.span ? told.span * 1.04 : whole()};
-  draw();
-  tellBar();
-  tellLegend();
-  tellDetails();
-  listen();
+  for (const part of [draw, tellBar, tellLegend, tellDetails, listen]) part();
   setTimeout(() => {
     tellWhatIf();
     enhanceTables();

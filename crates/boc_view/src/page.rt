@@ -45,7 +45,7 @@ fn made(
     let subject = &material.subject;
     let names = &subject.names;
     let defs = defs_of(alloc, names)?;
-    let run = run_text(alloc, wanted)?;
+    let run = run_and_names(alloc, wanted)?;
     let sentences = sentences(alloc, material, found, greedy)?;
     let program = material.program.as_slice();
     let block = Block {
@@ -168,33 +168,55 @@ pub(crate) fn title_of(wanted: &Wanted) -> &[u8] {
 /// Returns how the program was run; nothing where one thread ran it.
 pub(crate) fn run_text(alloc: Global, wanted: &Wanted) -> Result<Vec<u8>, AllocError> {
     let mut text = Vec::new(alloc);
-    if let Some(RunFile::Record(path)) = &wanted.file {
-        text.extend_from_slice(b"the run in ")?;
-        text.extend_from_slice(base_name(path.as_str()))?;
-        return Ok(text);
+    match &wanted.file {
+        Some(RunFile::Record(path)) => put_file(&mut text, b"the run in ", path.as_str())?,
+        _ => put_schedule(&mut text, wanted)?,
     }
+    Ok(text)
+}
+
+// Returns the same, and which file has names, if one is given.
+fn run_and_names(alloc: Global, wanted: &Wanted) -> Result<Vec<u8>, AllocError> {
+    let mut text = run_text(alloc, wanted)?;
+    if let Some(RunFile::Names(path)) = &wanted.file {
+        if !text.is_empty() {
+            text.extend_from_slice(b", ")?;
+        }
+        put_file(&mut text, b"names in ", path.as_str())?;
+    }
+    Ok(text)
+}
+
+// Appends words and the name of a file to a text.
+fn put_file(text: &mut Vec<u8>, words: &[u8], path: &str) -> Result<(), AllocError> {
+    text.extend_from_slice(words)?;
+    text.extend_from_slice(base_name(path))
+}
+
+// Appends by how many workers a program was run to a text, and as what draws it; nothing where one thread ran it.
+fn put_schedule(text: &mut Vec<u8>, wanted: &Wanted) -> Result<(), AllocError> {
     match wanted.schedule {
-        Schedule::Threads(runners) if runners.number() == 1 => {}
-        Schedule::Threads(runners) => put_workers(&mut text, runners.number())?,
+        Schedule::Threads(runners) if runners.number() == 1 => Ok(()),
+        Schedule::Threads(runners) => put_workers(text, runners.number()),
         Schedule::Timed(runners) => {
             text.extend_from_slice(b"timed on ")?;
-            put_workers(&mut text, runners.number())?;
+            put_workers(text, runners.number())
         }
         Schedule::Drawn {
             workers,
             seed,
             depth,
         } => {
-            put_workers(&mut text, workers.number())?;
+            put_workers(text, workers.number())?;
             text.extend_from_slice(b", seed ")?;
-            put_number(&mut text, seed)?;
+            put_number(text, seed)?;
             if let Some(depth) = depth {
                 text.extend_from_slice(b", depth ")?;
-                put_number(&mut text, u64::from(depth.number()))?;
+                put_number(text, u64::from(depth.number()))?;
             }
+            Ok(())
         }
     }
-    Ok(text)
 }
 
 // Appends a number of workers to a text.

@@ -66,7 +66,7 @@ NAMES = b"""= 0 <start> & "go"
 """
 
 # What xmllint says of an element that HTML didn't have before its fifth version.
-OF_A_DRAWING = re.compile(r"Tag (circle|g|line|path|polyline|rect|svg|text|title|header|main|section|aside|canvas|figure|figcaption|details|summary) invalid$")
+OF_A_DRAWING = re.compile(r"Tag (circle|g|line|path|polyline|rect|svg|text|title|header|main|section|aside|canvas|figure|figcaption|details|summary|bdi) invalid$")
 
 # What is wrong with a drawing and with a page: what stands there, and what is put in its place. xmllint is to refuse each.
 BROKEN_DRAWINGS = [(b"</g>", b""), (b"row 0", b"row & 0"), (b'id="r0"', b'id="r0" id="r0"'), (b'id="r0"', b"id=r0"), (b"row 0", b"row < 0"),

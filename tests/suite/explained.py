@@ -1296,6 +1296,8 @@ def beside(program):
          "early 1: 7 NoDef", [NAMES_ARE, "no row belongs to a def `mov`; the file's defs are work, rest"]),
         ("an edit of rows that spawn early", ["whatif", "--early", "main", "0=2"], "--program", text, record, "edit 1: 2 BelowSpawn",
          ["`0=2`: a row takes at least 1 tick, and at least the offset of its last child"]),
+        ("an edit of rows with typical ticks", ["whatif", "--typical", "0=2"], "--program", text, record, "edit 1: 2 BelowSpawn",
+         ["`0=2`: a row takes at least 1 tick, and at least the offset of its last child"]),
         ("a def that a file doesn't have", ["whatif", "mov=1/2"], "--names", b"= 1 work\n= 2 work 7\n= 3 rest\n", record, "edit 1: 7 NoDef",
          [NAMES_ARE, "no row belongs to a def `mov`; the file's defs are work, rest"]),
         ("a def where a file names no row", ["whatif", "mov=1/2"], "--names", b"@ 0 pot\n", record, "edit 1: 7 NoDef",

@@ -1,14 +1,13 @@
 // Events that break a rule of runs: which one, by what.
 
-use crate::formed::{column_of, is_space, number};
-use crate::limits::{COARSER_TICKS, FEWER_ROWS};
+use crate::formed::{COARSER_TICKS, FEWER_ROWS, column_of, is_space, number, put_last_child};
 use crate::run::{Life, last_child, life_of, row_count, run_before};
 use boc_program::limits::{MOST_ROWS, MOST_TICKS};
 use boc_program::short::Cowns;
-use boc_record::{RecordFault, RecordFaultKind};
+use boc_record::{RecordFault, RecordFaultKind as Kind};
 use boc_rules::Judge;
 use boc_said::said::Part::{Many, Number};
-use boc_said::said::{Said, Told};
+use boc_said::said::{Said, Told, first_case};
 use boc_text::read_number;
 use std::alloc::{AllocError, Global};
 
@@ -17,16 +16,16 @@ pub(crate) fn put_broken(said: &mut Said, text: &[u8], line: &[u8], fault: Recor
     let numbers = numbers_in(said.alloc, line)?;
     let run = run_before(said.alloc, text, fault.line)?;
     let faulty = match fault.kind {
-        RecordFaultKind::NumberNotNext => 1,
-        RecordFaultKind::ParentNotRunning => 2,
-        RecordFaultKind::Offset => 3,
+        Kind::NumberNotNext => 1,
+        Kind::ParentNotRunning => 2,
+        Kind::Offset => 3,
         _ => 0,
     };
     said.set_column(column_of(line, faulty));
     put_event(said, &run, fault.kind, numbers.as_slice())
 }
 
-// The numbers of the fields after the first one.
+// Returns the numbers of the fields after the first one.
 fn numbers_in(alloc: Global, line: &[u8]) -> Result<Vec<u32>, AllocError> {
     let mut numbers = Vec::new(alloc);
     for field in line.split(is_space).skip(1) {
@@ -38,20 +37,13 @@ fn numbers_in(alloc: Global, line: &[u8]) -> Result<Vec<u32>, AllocError> {
 }
 
 // Reports why a start, an end or a spawn with these numbers can't be.
-fn put_event(said: &mut Said, run: &Judge, kind: RecordFaultKind, numbers: &[u32]) -> Told {
-    if kind == RecordFaultKind::StartNotAllowed
-        && let [row] = numbers
-    {
-        return put_start(said, run, *row);
-    }
-    if kind == RecordFaultKind::EndNotAllowed
-        && let [row, ticks, _, written @ ..] = numbers
-    {
-        return put_end(said, run, *row, *ticks, written);
-    }
-    match numbers {
-        [_, parent, offset, cowns @ ..] => put_spawn(said, run, kind, [*parent, *offset], cowns),
-        _ => Ok(()),
+fn put_event(said: &mut Said, run: &Judge, kind: Kind, numbers: &[u32]) -> Told {
+    let [row, second, third] = [0, 1, 2].map(|place| numbers.get(place).copied().unwrap_or(0));
+    let cowns = numbers.get(3..).unwrap_or(&[]);
+    match kind {
+        Kind::StartNotAllowed => put_start(said, run, row),
+        Kind::EndNotAllowed => put_end(said, run, row, second, cowns),
+        _ => put_spawn(said, run, kind, [second, third], cowns),
     }
 }
 
@@ -59,51 +51,39 @@ fn put_event(said: &mut Said, run: &Judge, kind: RecordFaultKind, numbers: &[u32
 fn put_spawn(
     said: &mut Said,
     run: &Judge,
-    kind: RecordFaultKind,
+    kind: Kind,
     [parent, offset]: [u32; 2],
     cowns: &[u32],
 ) -> Told {
-    let count = run.count() as u64;
     let is_full = run.count() >= MOST_ROWS;
-    let is_main = run.count() == 0;
-    if let Some(reason) = flat_reason(kind, is_full, is_main) {
+    if let Some(reason) = flat_reason(kind, is_full, run.count() == 0) {
         said.about(reason, &[])?;
-        if is_full {
-            said.words(FEWER_ROWS)?;
-        }
-        return Ok(());
+        return if is_full {
+            said.words(FEWER_ROWS)
+        } else {
+            Ok(())
+        };
     }
     match kind {
-        RecordFaultKind::NumberNotNext => said.about("the next row is ", &[Number(count)]),
-        RecordFaultKind::ParentNotRunning => {
+        Kind::NumberNotNext => said.about("the next row is ", &[Number(run.count() as u64)]),
+        Kind::ParentNotRunning => {
             said.about(parent_words(life_of(run, parent)), &[number(parent)])
         }
-        RecordFaultKind::Offset => put_offset(said, run, parent, offset),
+        Kind::Offset => put_offset(said, run, parent, offset),
         _ => put_cowns(said, run.cowns(), cowns),
     }
 }
 
 // Returns why no row can be spawned so whatever its numbers are: the run is full, or has no row yet, and the first is main.
-fn flat_reason(kind: RecordFaultKind, is_full: bool, is_main: bool) -> Option<&'static str> {
-    if kind == RecordFaultKind::TooMany {
-        return Some("a run has at most 65535 rows");
-    }
-    if kind == RecordFaultKind::NumberNotNext {
-        return if is_full {
-            Some("a run has at most 65535 rows, and this is one more")
-        } else {
-            None
-        };
-    }
-    if !is_main {
-        return None;
-    }
-    match kind {
-        RecordFaultKind::ParentNotRunning => Some("row 0 is main; its parent must be 0"),
-        RecordFaultKind::Offset => Some("row 0 is main; its offset must be 0"),
-        RecordFaultKind::Cowns => Some("row 0 is main, which has no cowns"),
-        _ => None,
-    }
+#[rattlefmt::skip]
+fn flat_reason(kind: Kind, is_full: bool, is_main: bool) -> Option<&'static str> {
+    first_case(&[
+        (kind == Kind::TooMany, "a run has at most 65535 rows"),
+        (kind == Kind::NumberNotNext && is_full, "a run has at most 65535 rows, and this is one more"),
+        (kind == Kind::ParentNotRunning && is_main, "row 0 is main; its parent must be 0"),
+        (kind == Kind::Offset && is_main, "row 0 is main; its offset must be 0"),
+        (kind == Kind::Cowns && is_main, "row 0 is main, which has no cowns"),
+    ])
 }
 
 // Returns how far a parent has come that doesn't run.
@@ -115,42 +95,32 @@ fn parent_words(life: Option<Life>) -> &'static str {
     }
 }
 
+// Reports from which offset on a parent can spawn, or that it can spawn no more.
 fn put_offset(said: &mut Said, run: &Judge, parent: u32, offset: u32) -> Told {
     if offset > MOST_TICKS {
         said.about("an offset is at most 1000000", &[])?;
         return said.words(COARSER_TICKS);
     }
-    match last_child(run.rows(), parent) {
-        Some((child, tick)) => put_after(said, parent, child, tick),
-        None => said.about("an offset is at least 1", &[]),
+    let Some((child, tick)) = last_child(run.rows(), parent) else {
+        return said.about("an offset is at least 1", &[]);
+    };
+    if tick == MOST_TICKS {
+        let words =
+            "row {} spawned row {} at its tick 1000000, the largest offset, and can spawn no more";
+        said.about(words, &[number(parent), Number(child)])?;
+        return said.words(COARSER_TICKS);
     }
-}
-
-// Reports from which tick on a row can spawn that spawned its last child at this one.
-fn put_after(said: &mut Said, parent: u32, child: u64, tick: u32) -> Told {
-    if tick != MOST_TICKS {
-        let least = number(tick.saturating_add(1));
-        return said.about(
-            "row {} spawned row {} at its tick {}, so the offset is at least ",
-            &[number(parent), Number(child), number(tick), least],
-        );
-    }
-    said.about(
-        "row {} spawned row {} at its tick 1000000, the largest offset, and can spawn no more",
-        &[number(parent), Number(child)],
-    )?;
-    said.words(COARSER_TICKS)
+    let words = "row {} spawned row {} at its tick {}, so the offset is at least ";
+    let least = number(tick.saturating_add(1));
+    put_last_child(said, words, parent, (child, tick), least)
 }
 
 fn put_cowns(said: &mut Said, count: u32, cowns: &[u32]) -> Told {
-    for cown in cowns {
-        if *cown >= count {
-            let parts = [number(*cown), Many(u64::from(count), "cown")];
-            let words = "there is no cown {}; the first line declares {}, from 0 on";
-            return said.about(words, &parts);
-        }
-    }
-    said.about("cowns must rise, each above the one before it", &[])
+    let Some(cown) = cowns.iter().find(|cown| **cown >= count) else {
+        return said.about("cowns must rise, each above the one before it", &[]);
+    };
+    let words = "there is no cown {}; the first line declares {}, from 0 on";
+    said.about(words, &[number(*cown), Many(u64::from(count), "cown")])
 }
 
 // Returns how far a row has come that has no such event now.
@@ -163,7 +133,7 @@ fn life_words(life: Option<Life>) -> &'static str {
     }
 }
 
-// Reports which row is in the way of a start, over which cown.
+// Reports which row is in the way of a start, over which cown: one that runs, or that was spawned before it.
 fn put_start(said: &mut Said, run: &Judge, row: u32) -> Told {
     let life = life_of(run, row);
     if life != Some(Life::Pending) {
@@ -171,35 +141,29 @@ fn put_start(said: &mut Said, run: &Judge, row: u32) -> Told {
     }
     for other in 0..row_count(run) {
         let life = life_of(run, other);
-        let is_first = life == Some(Life::Pending) && other < row;
         if let Some(cown) = common_cown(run, other, row) {
+            let (first, cown) = (number(other), number(cown));
             if life == Some(Life::Running) {
-                let words = "row {} is running, and has cown {} too";
-                return said.about(words, &[number(other), number(cown)]);
+                return said.about("row {} is running, and has cown {} too", &[first, cown]);
             }
-            if is_first {
-                return said.about(
-                    "row {} was spawned before row {}, hasn't started, and has cown {} too",
-                    &[number(other), number(row), number(cown)],
-                );
+            if life == Some(Life::Pending) && other < row {
+                let words = "row {} was spawned before row {}, hasn't started, and has cown {} too";
+                return said.about(words, &[first, number(row), cown]);
             }
         }
     }
     Ok(())
 }
 
-// The first cown of a row that another one has too.
+// Returns the first cown of a row that another one has too.
 fn common_cown(run: &Judge, row: u32, other: u32) -> Option<u32> {
     let others = run.cowns_of(other)?.as_slice();
-    for cown in run.cowns_of(row)?.as_slice() {
-        if others.contains(cown) {
-            return Some(u32::from(*cown));
-        }
-    }
-    None
+    let own = run.cowns_of(row)?.as_slice();
+    let cown = own.iter().find(|cown| others.contains(cown))?;
+    Some(u32::from(*cown))
 }
 
-// Reports why a row can't end so.
+// Reports why a row can't end so: after these ticks, with these cowns written.
 fn put_end(said: &mut Said, run: &Judge, row: u32, ticks: u32, written: &[u32]) -> Told {
     let life = life_of(run, row);
     if life != Some(Life::Running) {
@@ -209,36 +173,19 @@ fn put_end(said: &mut Said, run: &Judge, row: u32, ticks: u32, written: &[u32]) 
         said.about("{} ticks; a row takes at most 1000000", &[number(ticks)])?;
         return said.words(COARSER_TICKS);
     }
-    put_running_end(said, run, row, ticks, written)
-}
-
-// Reports why a row that runs can't end so, after no more ticks than a row may take.
-fn put_running_end(said: &mut Said, run: &Judge, row: u32, ticks: u32, written: &[u32]) -> Told {
     if let Some((child, tick)) = last_child(run.rows(), row)
         && tick > ticks
     {
+        let words = "row {} spawned row {} at its tick {}, so it takes at least ";
         let least = Many(u64::from(tick), "tick");
-        return said.about(
-            "row {} spawned row {} at its tick {}, so it takes at least ",
-            &[number(row), Number(child), number(tick), least],
-        );
+        return put_last_child(said, words, row, (child, tick), least);
     }
     if ticks == 0 {
         return said.about("0 ticks; a row takes at least 1", &[]);
     }
-    put_written(said, run, row, written)
-}
-
-// Reports why a row can't have written these cowns.
-fn put_written(said: &mut Said, run: &Judge, row: u32, written: &[u32]) -> Told {
-    let own = match run.cowns_of(row) {
-        Some(own) => own.widened(),
-        None => Cowns::new(),
-    };
-    for cown in written {
-        if !own.contains(cown) {
-            return said.about("row {} doesn't have cown ", &[number(row), number(*cown)]);
-        }
+    let own = run.cowns_of(row).map_or(Cowns::new(), |own| own.widened());
+    match written.iter().find(|cown| !own.contains(cown)) {
+        Some(cown) => said.about("row {} doesn't have cown ", &[number(row), number(*cown)]),
+        None => said.about("written cowns must rise, each above the one before it", &[]),
     }
-    said.about("written cowns must rise, each above the one before it", &[])
 }

@@ -7,7 +7,7 @@ use crate::formed::{are_digits, put_no_number};
 use boc_program::limits::MOST_PART;
 use boc_said::place::pair_words;
 use boc_said::said::Part::{Bytes, Quote, Words};
-use boc_said::said::{Said, Told};
+use boc_said::said::{Explained, Said, Told, first_case};
 use boc_text::read_number;
 use std::alloc::{AllocError, Global};
 use strsim::osa_distance;
@@ -45,55 +45,41 @@ const BYTES_PER_EDIT: usize = 3;
 
 /// Returns what is reported of a word that should be an edit and is none: that with this number among those that look like one, counted from 1.
 /// The program's own name is the first of the words.
-pub fn explain_edit_word(
-    alloc: Global,
-    words: &[String],
-    number: usize,
-) -> Result<String, AllocError>
+pub fn explain_edit_word(alloc: Global, words: &[String], number: usize) -> Explained
     ensures { IfOk result (λ told. AreLines (string_bytes told)) }
 {
     let mut said = Said::new(alloc);
-    let mut counted: usize = 0;
-    for word in operands(alloc, words)? {
-        if is_edit(word) {
-            counted = counted.saturating_add(1);
-            if counted == number {
-                said.set_subject(word)?;
-                put_no_edit(&mut said, word)?;
-            }
-        }
+    let operands = operands(alloc, words)?;
+    let mut edits = operands.iter().filter(|word| is_edit(word));
+    if let Some(word) = edits.nth(number.saturating_sub(1)) {
+        said.set_subject(word)?;
+        put_no_edit(&mut said, word)?;
     }
     said.into_text(None)
 }
 
 /// Returns what is reported of words that the parser refuses with this text: that they name two files to read the input from, or the program or the record by
 /// the option of other commands, or that a word which is no command is near to one of these.
-pub fn explain_words(
-    alloc: Global,
-    words: &[String],
-    commands: &[&str],
-    told: &str,
-) -> Result<String, AllocError>
+pub fn explain_words(alloc: Global, words: &[String], commands: &[&str], told: &str) -> Explained
     ensures { IfOk result (λ told. AreLines (string_bytes told)) }
 {
     let mut said = Said::new(alloc);
-    let told = told.as_bytes();
-    if let Some(word) = no_command(words, told) {
-        put_nearest(&mut said, commands, word)?;
-    } else {
-        let command: &[u8] = match words {
-            [_, command, ..] => command.as_bytes(),
-            _ => b"",
-        };
-        let is_told = put_files(&mut said, words, command, told)?;
-        if !is_told {
-            put_option(&mut said, command, told)?;
-        }
-    }
+    put_words(&mut said, words, commands, told.as_bytes())?;
     said.into_text(None)
 }
 
-// The word that the parser's text refuses as a command, where it names none that is like it.
+fn put_words(said: &mut Said, words: &[String], commands: &[&str], told: &[u8]) -> Told {
+    if let Some(word) = no_command(words, told) {
+        return put_nearest(said, commands, word);
+    }
+    let command = words.get(1).map_or("", String::as_str).as_bytes();
+    if put_files(said, words, command, told)? {
+        return Ok(());
+    }
+    put_option(said, command, told)
+}
+
+// Returns the word that the parser's text refuses as a command, where it names none that is like it.
 fn no_command<'w>(words: &'w [String], told: &[u8]) -> Option<&'w str> {
     let rest = told.strip_prefix(UNRECOGNIZED)?;
     for word in words.iter().skip(1) {
@@ -124,56 +110,41 @@ fn put_nearest(said: &mut Said, commands: &[&str], word: &str) -> Told {
     }
 }
 
-// Reports that two words name files where this text refuses them for that, and answers whether that is so.
+// Reports that two words name files where this text refuses them for that, and answers whether that is so. Of `whatif`, words that look like edits name none.
 fn put_files(
     said: &mut Said,
     words: &[String],
     command: &[u8],
     told: &[u8],
 ) -> Result<bool, AllocError> {
-    let files = files_of(said.alloc, words, command)?;
+    let mut files = operands(said.alloc, words)?;
+    if command == WHATIF {
+        files.retain(|word| !is_edit(word));
+    }
     let [first, second, ..] = files.as_slice() else {
         return Ok(false);
     };
-    if !is_refused(told, second) {
-        return Ok(false);
+    let is_told = is_refused(told, second);
+    if is_told {
+        put_two_files(said, command, [*first, *second])?;
     }
-    put_two_files(said, command, [*first, *second])?;
-    Ok(true)
+    Ok(is_told)
 }
 
-// The words that name files: of `whatif` those that don't look like edits.
-fn files_of<'w>(
-    alloc: Global,
-    words: &'w [String],
-    command: &[u8],
-) -> Result<Vec<&'w [u8]>, AllocError> {
-    let mut files: Vec<&'w [u8]> = Vec::new(alloc);
-    for word in operands(alloc, words)? {
-        if command != WHATIF || !is_edit(word) {
-            files.push(word)?;
-        }
-    }
-    Ok(files)
-}
-
-// The parser's text refuses this file, the second one.
+// Returns whether the parser's text refuses this file, the second one.
 fn is_refused(told: &[u8], second: &[u8]) -> bool {
-    match told.strip_prefix(UNEXPECTED) {
-        Some(rest) => match rest.strip_prefix(second) {
-            Some(behind) => behind.starts_with(b"' found"),
-            None => false,
-        },
-        None => told.starts_with(TWO_FILES),
-    }
+    let Some(rest) = told.strip_prefix(UNEXPECTED) else {
+        return told.starts_with(TWO_FILES);
+    };
+    let behind = rest.strip_prefix(second);
+    behind.is_some_and(|behind| behind.starts_with(b"' found"))
 }
 
 // Reports that two words name files.
 fn put_two_files(said: &mut Said, command: &[u8], [first, second]: [&[u8]; 2]) -> Told {
-    said.tell(
-        "{} and {} are two FILEs, but the input is read from one",
-        &[Quote(first), Quote(second)],
-    )?;
+    let files = [Quote(first), Quote(second)];
+    let words = "{} and {} are two FILEs, but the input is read from one";
+    said.tell(words, &files)?;
     if command == WHATIF {
         said.words("an argument with neither = nor @ is a FILE, and each other one an edit")?;
     }
@@ -193,7 +164,7 @@ fn put_option(said: &mut Said, command: &[u8], told: &[u8]) -> Told {
     said.tell("{}{}boc {}", &parts)
 }
 
-// The words after the command's that are no options and no values of them.
+// Returns the words after the command's that are no options and no values of them.
 fn operands<'w>(alloc: Global, words: &'w [String]) -> Result<Vec<&'w [u8]>, AllocError> {
     let mut found: Vec<&'w [u8]> = Vec::new(alloc);
     let mut is_value = false;
@@ -205,7 +176,9 @@ fn operands<'w>(alloc: Global, words: &'w [String]) -> Result<Vec<&'w [u8]>, All
             is_value = false;
         } else if is_option {
             only_operands = word == b"--".as_slice();
-            is_value = has_value(word);
+            is_value = WITH_VALUE
+                .split(' ')
+                .any(|option| option.as_bytes() == word);
         } else {
             found.push(word)?;
         }
@@ -213,59 +186,45 @@ fn operands<'w>(alloc: Global, words: &'w [String]) -> Result<Vec<&'w [u8]>, All
     Ok(found)
 }
 
-// The word after this option is its value.
-fn has_value(word: &[u8]) -> bool {
-    for option in WITH_VALUE.split(' ') {
-        if option.as_bytes() == word {
-            return true;
-        }
-    }
-    false
-}
-
-// A word looks like an edit.
+// Returns whether a word looks like an edit.
 fn is_edit(word: &[u8]) -> bool {
     word.contains(&b'=') || word.contains(&b'@')
 }
 
-// What is before the first sign of this kind in a word, and after it.
+// Returns what is before the first sign of this kind in a word, and after it.
 fn around(word: &[u8], sign: u8) -> Option<(&[u8], &[u8])> {
-    for (at, byte) in word.iter().enumerate() {
-        if *byte == sign {
-            let (front, rest) = word.split_at(at);
-            return Some((front, rest.split_first()?.1));
-        }
-    }
-    None
+    let at = word.iter().position(|byte| *byte == sign)?;
+    let (front, rest) = word.split_at(at.min(word.len()));
+    Some((front, rest.split_first()?.1))
 }
 
 // Reports why a word is no edit.
+#[rattlefmt::skip]
 fn put_no_edit(said: &mut Said, word: &[u8]) -> Told {
     let is_change = word.contains(&b'=');
     let sign = if is_change { b'=' } else { b'@' };
     let (subject, change) = around(word, sign).unwrap_or((word, b""));
-    let reason = if word.contains(&b' ') {
-        "an edit has no spaces"
-    } else if is_change && subject.is_empty() {
-        "a row or a def goes before the `=`"
-    } else if is_change && change.is_empty() {
-        "ticks or a part K/D go after the `=`"
-    } else if subject.is_empty() {
-        "a row goes before the `@`"
-    } else if change.is_empty() {
-        "a tick goes after the `@`"
-    } else if !is_change {
+    let reason = first_case(&[
+        (word.contains(&b' '), "an edit has no spaces"),
+        (is_change && subject.is_empty(), "a row or a def goes before the `=`"),
+        (is_change && change.is_empty(), "ticks or a part K/D go after the `=`"),
+        (subject.is_empty(), "a row goes before the `@`"),
+        (change.is_empty(), "a tick goes after the `@`"),
+    ]);
+    if let Some(reason) = reason {
+        return said.about(reason, &[]);
+    }
+    if !is_change {
         return put_no_number(said, first_unread(subject, change));
-    } else if let Some((over, under)) = around(change, b'/') {
-        return put_no_part(said, [over, under], subject);
-    } else {
-        return put_no_change(said, subject, change);
-    };
-    said.about(reason, &[])
+    }
+    match around(change, b'/') {
+        Some((over, under)) => put_no_part(said, [over, under], subject),
+        None => put_no_change(said, subject, change),
+    }
 }
 
 // Reports why a word is no edit that has no part after the `=`.
-fn put_no_change<'a>(said: &mut Said, subject: &'a [u8], change: &'a [u8]) -> Told {
+fn put_no_change(said: &mut Said, subject: &[u8], change: &[u8]) -> Told {
     let is_row = are_digits(subject);
     if is_row && are_digits(change) {
         let is_large = !change.starts_with(b"0") && read_number(change).is_none();
@@ -279,20 +238,15 @@ fn put_no_change<'a>(said: &mut Said, subject: &'a [u8], change: &'a [u8]) -> To
     {
         return put_no_number(said, subject);
     }
-    if is_row {
-        said.about(
-            "{} is neither ticks nor a part K/D; half of what the row costs is `{}=1/2`",
-            &[Quote(change), Bytes(subject)],
-        )
+    let words = if is_row {
+        "{} is neither ticks nor a part K/D; half of what the row costs is `{}=1/2`"
     } else {
-        said.about(
-            "{} is not a part K/D; half of what the rows of a def cost is `{}=1/2`",
-            &[Quote(change), Bytes(subject)],
-        )
-    }
+        "{} is not a part K/D; half of what the rows of a def cost is `{}=1/2`"
+    };
+    said.about(words, &[Quote(change), Bytes(subject)])
 }
 
-// The first of two texts where it is no number, and else the second.
+// Returns the first of two texts where it is no number, and else the second.
 fn first_unread<'a>(first: &'a [u8], second: &'a [u8]) -> &'a [u8] {
     if read_number(first).is_none() {
         first

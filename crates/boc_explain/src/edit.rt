@@ -3,8 +3,8 @@
 ghost use Rattle.std.specs.Prelude.{IfOk, string_bytes};
 ghost use Rattle.boc_said.specs.Lines.{AreLines};
 
-use crate::formed::number;
-use crate::names::{Naming, names_by_file, names_by_program};
+use crate::formed::{number, put_last_child};
+use crate::names::{Called, Naming, names_by_file, names_by_program};
 use crate::run::last_child;
 use boc_names::{Names, text_at};
 use boc_plans::edit::{Change, Edit, EditFault, Part as Fraction};
@@ -14,7 +14,7 @@ use boc_record::read_rows;
 use boc_runs::rows::Row;
 use boc_said::place::Text;
 use boc_said::said::Part::{Many, Number, Words};
-use boc_said::said::{Said, Told};
+use boc_said::said::{Explained, Said, Told};
 use boc_text::Bytes;
 use boc_whatif::WhatIf;
 use std::alloc::{AllocError, Global};
@@ -36,7 +36,7 @@ pub fn explain_edit(
     word: &str,
     edits: &[Asked],
     fault: EditFault,
-) -> Result<String, AllocError>
+) -> Explained
     ensures { IfOk result (λ told. AreLines (string_bytes told)) }
 {
     let mut said = Said::new(alloc);
@@ -62,36 +62,18 @@ fn put_last(
     put_unfit(said, text, &made, fault)
 }
 
-// The edits of rows that these edits are.
-fn edits_of(alloc: Global, names: &Names, edits: &[Asked]) -> Result<Vec<Edit>, AllocError> {
-    let mut made = Vec::new(alloc);
-    for asked in edits {
-        put_edits(&mut made, names, asked)?;
-    }
-    Ok(made)
-}
-
 /// Returns what is reported of an edit that the rows of a program's run can't take, or those of a record with other spawns. Its word is this. The input doesn't
 /// say which rows these are.
-pub fn explain_edit_of_run(
-    alloc: Global,
-    word: &str,
-    fault: EditFault,
-) -> Result<String, AllocError>
+#[rattlefmt::skip]
+pub fn explain_edit_of_run(alloc: Global, word: &str, fault: EditFault) -> Explained
     ensures { IfOk result (λ told. AreLines (string_bytes told)) }
 {
     let reason = match fault {
-        EditFault::NoRow => {
-            "the run has no such row; rows count from 0, in the order of their spawns"
-        }
+        EditFault::NoRow => "the run has no such row; rows count from 0, in the order of their spawns",
         EditFault::NoParent => "row 0 is main, which no row spawns",
         EditFault::TooManyTicks => "a row takes at most 1000000 ticks",
-        EditFault::BelowSpawn => {
-            "a row takes at least 1 tick, and at least the offset of its last child"
-        }
-        EditFault::NotBetween => {
-            "a row is spawned at a tick of its parent, between those at which its siblings are"
-        }
+        EditFault::BelowSpawn => "a row takes at least 1 tick, and at least the offset of its last child",
+        EditFault::NotBetween => "a row is spawned at a tick of its parent, between those at which its siblings are",
     };
     let mut said = Said::new(alloc);
     said.set_subject(word.as_bytes())?;
@@ -101,12 +83,11 @@ pub fn explain_edit_of_run(
 
 // Reports why the rows of a record can't take the first of these edits that they can't.
 fn put_unfit(said: &mut Said, text: &[u8], edits: &[Edit], fault: EditFault) -> Told {
-    let alloc = said.alloc;
-    let mut source = Bytes::new(Vec::from_slice(alloc, text)?);
-    let Ok(rows) = read_rows(alloc, &mut source) else {
+    let mut source = Bytes::new(Vec::from_slice(said.alloc, text)?);
+    let Ok(rows) = read_rows(said.alloc, &mut source) else {
         return Ok(());
     };
-    let mut run = WhatIf::of(alloc, rows, Sharing::Exclusive)?;
+    let mut run = WhatIf::of(said.alloc, rows, Sharing::Exclusive)?;
     let Err(unfit) = run.edit_all(edits) else {
         return Ok(());
     };
@@ -116,18 +97,10 @@ fn put_unfit(said: &mut Said, text: &[u8], edits: &[Edit], fault: EditFault) -> 
     }
 }
 
-// The names of the rows of a record, if an edit asks for them; none of no rows.
-fn names_for(
-    alloc: Global,
-    text: &[u8],
-    naming: Naming<'_>,
-    edits: &[Asked],
-) -> Result<Option<Names>, AllocError> {
-    let mut asks = false;
-    for asked in edits {
-        asks |= matches!(asked, Asked::Def { .. });
-    }
-    if !asks {
+// Returns the names of the rows of a record, if an edit asks for them; none of no rows.
+fn names_for(alloc: Global, text: &[u8], naming: Naming<'_>, edits: &[Asked]) -> Called {
+    let asks = |asked: &Asked| matches!(asked, Asked::Def { .. });
+    if !edits.iter().any(asks) {
         return names_by_file(alloc, b"", None);
     }
     match naming {
@@ -137,20 +110,29 @@ fn names_for(
     }
 }
 
-// Appends the edits of rows that an edit is, the rows called so.
-fn put_edits(edits: &mut Vec<Edit>, names: &Names, asked: &Asked) -> Told {
-    match asked {
-        Asked::Row(edit) => edits.push(*edit)?,
-        Asked::Def { name, part } => {
-            let mut row: u32 = 0;
-            for def in &names.defs {
-                if text_at(&names.def_names, *def as usize) == name.as_bytes() {
-                    let change = Change::Cost(*part);
-                    edits.push(Edit { row, change })?;
-                }
-                row = row.saturating_add(1);
-            }
+// Returns the edits of rows that these edits are: that of a def is one of each row that is called so.
+fn edits_of(alloc: Global, names: &Names, edits: &[Asked]) -> Result<Vec<Edit>, AllocError> {
+    let mut made = Vec::new(alloc);
+    for asked in edits {
+        match asked {
+            Asked::Row(edit) => made.push(*edit)?,
+            Asked::Def { name, part } => put_edits(&mut made, names, name.as_bytes(), *part)?,
         }
+    }
+    Ok(made)
+}
+
+// Appends an edit of each row that is called so.
+fn put_edits(edits: &mut Vec<Edit>, names: &Names, name: &[u8], part: Fraction) -> Told {
+    let mut row: u32 = 0;
+    for def in &names.defs {
+        if text_at(&names.def_names, *def as usize) == name {
+            edits.push(Edit {
+                row,
+                change: Change::Cost(part),
+            })?;
+        }
+        row = row.saturating_add(1);
     }
     Ok(())
 }
@@ -159,8 +141,8 @@ fn put_edits(edits: &mut Vec<Edit>, names: &Names, asked: &Asked) -> Told {
 fn put_refused(said: &mut Said, rows: &[Row], edit: Edit, fault: EditFault) -> Told {
     match fault {
         EditFault::NoRow => {
-            let last = (rows.len() as u64).saturating_sub(1);
-            said.about("the record has rows 0 to ", &[Number(last)])
+            let last = Number((rows.len() as u64).saturating_sub(1));
+            said.about("the record has rows 0 to ", &[last])
         }
         EditFault::NoParent => said.about("row 0 is main, which no row spawns", &[]),
         EditFault::TooManyTicks => put_many(said, rows, edit),
@@ -174,10 +156,9 @@ fn put_many(said: &mut Said, rows: &[Row], edit: Edit) -> Told {
     let (Change::Cost(_), Some(row)) = (edit.change, rows.get(edit.row as usize)) else {
         return said.about("a row takes at most 1000000 ticks", &[]);
     };
-    said.about(
-        "row {} takes {}; the edit would exceed the limit of 1000000",
-        &[number(edit.row), Many(u64::from(row.ticks), "tick")],
-    )
+    let parts = [number(edit.row), Many(u64::from(row.ticks), "tick")];
+    let words = "row {} takes {}; the edit would exceed the limit of 1000000";
+    said.about(words, &parts)
 }
 
 // Reports the least ticks that a row can take.
@@ -185,11 +166,9 @@ fn put_below(said: &mut Said, rows: &[Row], row: u32) -> Told {
     let Some((child, tick)) = last_child(rows, row) else {
         return said.about("a row takes at least 1 tick", &[]);
     };
+    let words = "row {} spawns row {} at its tick {}, so it takes at least ";
     let least = Many(u64::from(tick), "tick");
-    said.about(
-        "row {} spawns row {} at its tick {}, so it takes at least ",
-        &[number(row), Number(child), number(tick), least],
-    )
+    put_last_child(said, words, row, (child, tick), least)
 }
 
 // Reports between which ticks of its parent a row can be spawned.
@@ -199,36 +178,25 @@ fn put_between(said: &mut Said, rows: &[Row], place: u32) -> Told {
         return Ok(());
     };
     let elder = last_child(before, row.parent);
-    let mut younger = None;
-    for other in behind.iter().rev() {
-        if other.parent == row.parent {
-            younger = Some(other.offset);
-        }
-    }
+    let younger = behind.iter().find(|other| other.parent == row.parent);
     let siblings = match (elder, younger) {
         (Some(_), Some(_)) => ", between its siblings,",
         (Some(_), None) => ", after its earlier sibling,",
         (None, Some(_)) => ", before its later sibling,",
         (None, None) => "",
     };
-    let least = match elder {
-        Some((_, tick)) => tick.saturating_add(1),
-        None => 1,
-    };
+    let least = elder.map_or(1, |(_, tick)| tick.saturating_add(1));
     let most = match (younger, rows.get(row.parent as usize)) {
-        (Some(offset), _) => offset.saturating_sub(1),
+        (Some(other), _) => other.offset.saturating_sub(1),
         (None, Some(parent)) => parent.ticks,
         (None, None) => MOST_TICKS,
     };
     let (place, siblings, parent) = (number(place), Words(siblings), number(row.parent));
+    let (first, last) = (number(least), number(most));
     if least == most {
-        return said.about(
-            "row {}{} can be spawned only at tick {} of row ",
-            &[place, siblings, number(least), parent],
-        );
+        let words = "row {}{} can be spawned only at tick {} of row ";
+        return said.about(words, &[place, siblings, first, parent]);
     }
-    said.about(
-        "row {}{} can be spawned at tick {} to {} of row ",
-        &[place, siblings, number(least), number(most), parent],
-    )
+    let words = "row {}{} can be spawned at tick {} to {} of row ";
+    said.about(words, &[place, siblings, first, last, parent])
 }

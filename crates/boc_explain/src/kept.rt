@@ -54,12 +54,8 @@ impl Kept {
     pub fn keep(&mut self, bytes: &[u8]) {
         let room = MOST_KEPT.saturating_sub(self.bytes.len());
         let (front, _) = bytes.split_at(room.min(bytes.len()));
-        if self.is_whole && self.bytes.extend_from_slice(front).is_err() {
-            self.is_whole = false;
-        }
-        if front.len() < bytes.len() {
-            self.is_whole = false;
-        }
+        let is_kept = self.is_whole && self.bytes.extend_from_slice(front).is_ok();
+        self.is_whole = is_kept && front.len() == bytes.len();
     }
 }
 

@@ -8,7 +8,6 @@ mod command_words;
 mod edit;
 mod formed;
 mod kept;
-mod limits;
 mod missing;
 mod names;
 mod record;
@@ -18,15 +17,9 @@ mod stray;
 use boc_program::limits::{MOST_COWNS, MOST_HELD, MOST_PART, MOST_ROWS, MOST_TICKS};
 
 // These numbers are named in the lines.
-const _: () = prove!(MOST_COWNS == 256);
+const _: () = prove!(MOST_COWNS == 256 && MOST_HELD == 8 && MOST_PART == 1_000);
 
-const _: () = prove!(MOST_HELD == 8);
-
-const _: () = prove!(MOST_PART == 1_000);
-
-const _: () = prove!(MOST_ROWS == 65_535);
-
-const _: () = prove!(MOST_TICKS == 1_000_000);
+const _: () = prove!(MOST_ROWS == 65_535 && MOST_TICKS == 1_000_000);
 
 pub use command_words::{explain_edit_word, explain_words};
 pub use edit::{Asked, explain_edit, explain_edit_of_run};

@@ -3,12 +3,12 @@
 ghost use Rattle.std.specs.Prelude.{IfOk, string_bytes};
 ghost use Rattle.boc_said.specs.Lines.{AreLines};
 
-use crate::names::{Naming, names_by_file, program_cowns, record_cowns};
+use crate::names::{Naming, counted_cowns, names_by_file};
 use boc_names::Names;
 use boc_reader::read_listed;
 use boc_said::place::{Text, looks_like_program};
 use boc_said::said::Part::{Bytes, Number, Quote, Words};
-use boc_said::said::{MOST_QUOTE, Said, Told};
+use boc_said::said::{Explained, MOST_QUOTE, Said, Told, first_case};
 use boc_text::read_number;
 use std::alloc::{AllocError, Global};
 
@@ -19,13 +19,11 @@ struct Known {
     words: [&'static str; 3],
 }
 
+// What a text names, if that is known.
+type Found = Result<Option<Known>, AllocError>;
+
 /// Returns what is reported of a cown that a record doesn't have, called so.
-pub fn explain_cown(
-    alloc: Global,
-    text: Text<'_>,
-    naming: Naming<'_>,
-    name: &str,
-) -> Result<String, AllocError>
+pub fn explain_cown(alloc: Global, text: Text<'_>, naming: Naming<'_>, name: &str) -> Explained
     ensures { IfOk result (λ told. AreLines (string_bytes told)) }
 {
     let mut said = Said::new(alloc);
@@ -35,64 +33,29 @@ pub fn explain_cown(
 
 // Reports which cowns there are, as they are called, or else by their numbers.
 fn put_no_cown(said: &mut Said, text: Text<'_>, naming: Naming<'_>, name: &[u8]) -> Told {
-    let known = known_cowns(said.alloc, text, naming, name)?;
-    let counted = counted(said.alloc, text.bytes)?;
-    if let Some(known) = known {
+    if read_number(name).is_none()
+        && let Some(known) = known_by(said.alloc, text, naming, false)?
+    {
         return put_missing(said, "no cown is called ", name, known);
     }
-    match counted {
-        Some((whose, count)) => put_counted(said, name, whose, count),
-        None => Ok(()),
-    }
-}
-
-// The cowns as they are called, where one is wanted by no number.
-fn known_cowns(
-    alloc: Global,
-    text: Text<'_>,
-    naming: Naming<'_>,
-    name: &[u8],
-) -> Result<Option<Known>, AllocError> {
-    if read_number(name).is_some() {
-        return Ok(None);
-    }
-    match naming {
-        Naming::Program(program) => cowns_of(alloc, program),
-        Naming::Names(file) => named_in(alloc, text, file, false),
-        Naming::Numbers => Ok(None),
-    }
+    put_counted(said, text, name)
 }
 
 // Reports how many cowns an input has.
-fn put_counted(said: &mut Said, name: &[u8], whose: &'static str, count: u64) -> Told {
+fn put_counted(said: &mut Said, text: Text<'_>, name: &[u8]) -> Told {
+    let Some((whose, count)) = counted_cowns(said.alloc, text.bytes) else {
+        return Ok(());
+    };
     if count == 0 {
         said.set_subject(name)?;
         return said.about("the {} has no cowns", &[Words(whose)]);
     }
-    said.tell(
-        "no cown is called {}; the {} has cowns 0 to ",
-        &[Quote(name), Words(whose), Number(count.saturating_sub(1))],
-    )
-}
-
-// What an input is, and how many cowns it has, the members of arrays counted.
-fn counted(alloc: Global, text: &[u8]) -> Result<Option<(&'static str, u64)>, AllocError> {
-    if let Some(count) = record_cowns(text) {
-        return Ok(Some(("record", u64::from(count))));
-    }
-    Ok(match program_cowns(alloc, text)? {
-        Some(count) => Some(("program", count)),
-        None => None,
-    })
+    let parts = [Quote(name), Words(whose), Number(count.saturating_sub(1))];
+    said.tell("no cown is called {}; the {} has cowns 0 to ", &parts)
 }
 
 /// Returns what is reported of a def that no row of a record is of, called so.
-pub fn explain_def(
-    alloc: Global,
-    text: Text<'_>,
-    naming: Naming<'_>,
-    name: &str,
-) -> Result<String, AllocError>
+pub fn explain_def(alloc: Global, text: Text<'_>, naming: Naming<'_>, name: &str) -> Explained
     ensures { IfOk result (λ told. AreLines (string_bytes told)) }
 {
     let mut said = Said::new(alloc);
@@ -101,32 +64,33 @@ pub fn explain_def(
 }
 
 // Reports which defs there are, or why none can be called so.
+#[rattlefmt::skip]
 fn put_no_def(said: &mut Said, text: Text<'_>, naming: Naming<'_>, name: &[u8]) -> Told {
-    let known = match naming {
-        Naming::Numbers => {
-            return said.tell(
-                "no row belongs to a def {}; without either file each row is a def of its own, such as `row 0`",
-                &[Quote(name)],
-            );
-        }
-        Naming::Program(program) => defs_of(said.alloc, program)?,
-        Naming::Names(file) => {
-            if looks_like_program(text.bytes) {
-                return said.tell(
-                    "no row belongs to a def {}; names in --names FILE replace those of the program",
-                    &[Quote(name)],
-                );
-            }
-            named_in(said.alloc, text, file, true)?
-        }
-    };
-    match known {
+    let by_file = matches!(naming, Naming::Names(_));
+    let reason = first_case(&[
+        (matches!(naming, Naming::Numbers), "no row belongs to a def {}; without either file each row is a def of its own, such as `row 0`"),
+        (by_file && looks_like_program(text.bytes), "no row belongs to a def {}; names in --names FILE replace those of the program"),
+    ]);
+    if let Some(reason) = reason {
+        return said.tell(reason, &[Quote(name)]);
+    }
+    match known_by(said.alloc, text, naming, true)? {
         Some(known) => put_missing(said, "no row belongs to a def ", name, known),
         None => Ok(()),
     }
 }
 
-fn defs_of(alloc: Global, program: &[u8]) -> Result<Option<Known>, AllocError> {
+// Returns the defs or the cowns that a program or a file names, if that is known.
+fn known_by(alloc: Global, text: Text<'_>, naming: Naming<'_>, are_defs: bool) -> Found {
+    match naming {
+        Naming::Numbers => Ok(None),
+        Naming::Program(program) if are_defs => defs_of(alloc, program),
+        Naming::Program(program) => cowns_of(alloc, program),
+        Naming::Names(file) => named_in(alloc, text, file, are_defs),
+    }
+}
+
+fn defs_of(alloc: Global, program: &[u8]) -> Found {
     let Ok((_, listings)) = read_listed(alloc, program) else {
         return Ok(None);
     };
@@ -139,7 +103,7 @@ fn defs_of(alloc: Global, program: &[u8]) -> Result<Option<Known>, AllocError> {
     Ok(Some(Known { names, words }))
 }
 
-fn cowns_of(alloc: Global, program: &[u8]) -> Result<Option<Known>, AllocError> {
+fn cowns_of(alloc: Global, program: &[u8]) -> Found {
     let Ok((program, _)) = read_listed(alloc, program) else {
         return Ok(None);
     };
@@ -156,48 +120,24 @@ fn cowns_of(alloc: Global, program: &[u8]) -> Result<Option<Known>, AllocError> 
     Ok(Some(Known { names, words }))
 }
 
-// The defs or the cowns of a record that a file names, if that is known.
-fn named_in(
-    alloc: Global,
-    text: Text<'_>,
-    file: &[u8],
-    is_of_defs: bool,
-) -> Result<Option<Known>, AllocError> {
+// Returns the defs or the cowns of a record that a file names, if that is known.
+#[rattlefmt::skip]
+fn named_in(alloc: Global, text: Text<'_>, file: &[u8], are_defs: bool) -> Found {
     if !text.whole {
         return Ok(None);
     }
     let Some(called) = names_by_file(alloc, text.bytes, Some(file))? else {
         return Ok(None);
     };
-    let Names {
-        def_names,
-        family_names,
-        ..
-    } = called;
-    let (all, words) = if is_of_defs {
-        (
-            def_names,
-            ["; the file names no row", "; the file's defs are ", ""],
-        )
+    let Names { def_names, family_names, .. } = called;
+    let (mut names, words) = if are_defs {
+        (def_names, ["; the file names no row", "; the file's defs are ", ""])
     } else {
-        (
-            family_names,
-            ["; the file names no cown", "; the file's cowns are ", ""],
-        )
+        (family_names, ["; the file names no cown", "; the file's cowns are ", ""])
     };
-    let names = without_blanks(alloc, all)?;
+    // What the file names has no blank; what it doesn't is called as `row 2`.
+    names.retain(|name| !name.contains(&b' '));
     Ok(Some(Known { names, words }))
-}
-
-// Those of the names that a file gives. What it names has no blank; what it doesn't is called as `row 2`.
-fn without_blanks(alloc: Global, all: Vec<Vec<u8>>) -> Result<Vec<Vec<u8>>, AllocError> {
-    let mut names = Vec::new(alloc);
-    for name in all {
-        if !name.contains(&b' ') {
-            names.push(name)?;
-        }
-    }
-    Ok(names)
 }
 
 // Reports that none is called so, and which there are.
@@ -217,7 +157,7 @@ const MOST_NAMES: usize = 6;
 // How many bytes they have next to the name that is missing, at most: as many as a line has next to the words round them.
 const MOST_LISTED: usize = 90;
 
-// The first of these names, as many as fit next to one that is missing, and two dots instead of the others.
+// Returns the first of these names, as many as fit next to one that is missing, and two dots instead of the others.
 fn listed(alloc: Global, names: &[Vec<u8>], missing: &[u8]) -> Result<Vec<u8>, AllocError> {
     let mut text = Vec::new(alloc);
     let room = MOST_LISTED.saturating_sub(missing.len().min(MOST_QUOTE));

@@ -8,7 +8,8 @@ use crate::formed::{column_of, is_feed, is_space, put_common, put_no_number};
 use crate::run::{line_at, run_before};
 use boc_follow::{Follower, follow_record};
 use boc_names::{
-    MOST_NAMES, Names, NamesFault, NamesFaultKind, names_of_run, numbers_as_names, read_names,
+    MOST_NAMES, Names, NamesFault, NamesFaultKind as Kind, names_of_run, numbers_as_names,
+    read_names,
 };
 use boc_program::limits::{MOST_COWNS, MOST_ROWS};
 use boc_program::program::Program;
@@ -20,7 +21,7 @@ use boc_registers::compiled::CompiledProgram;
 use boc_runs::record::Record;
 use boc_said::place::{Text, is_first_word, looks_like_record};
 use boc_said::said::Part::{Number, Quote, Words};
-use boc_said::said::{Said, Told};
+use boc_said::said::{Explained, Said, Told, first_case};
 use boc_text::{Bytes, MOST_LINE, read_number};
 use std::alloc::{AllocError, Global};
 
@@ -39,70 +40,57 @@ pub enum Naming<'a> {
 }
 
 /// Returns what is reported of a file of names after the line of its fault. It names the rows and the cowns of the run that this input reports of.
-pub fn explain_names(
-    alloc: Global,
-    text: Text<'_>,
-    input: Text<'_>,
-    fault: NamesFault,
-) -> Result<String, AllocError>
+pub fn explain_names(alloc: Global, text: Text<'_>, input: Text<'_>, fault: NamesFault) -> Explained
     ensures { IfOk result (λ told. AreLinesOf (option_copied text.entry.name) (string_bytes told)) }
 {
     let mut said = Said::new(alloc);
     said.set_place(fault.line, 1);
     if let Some(line) = line_at(text, fault.line) {
-        if let NamesFaultKind::NoRow | NamesFaultKind::NoCown | NamesFaultKind::Twice = fault.kind {
+        if let Kind::NoRow | Kind::NoCown | Kind::Twice = fault.kind {
             said.set_column(column_of(line, 1));
         }
         said.set_subject(line)?;
-        put_fault(&mut said, text, input, line, fault)?;
+        put_fault(&mut said, text.bytes, input, line, fault)?;
     }
     said.into_text(text.name)
 }
 
 fn put_fault(
     said: &mut Said,
-    text: Text<'_>,
+    text: &[u8],
     input: Text<'_>,
     line: &[u8],
     fault: NamesFault,
 ) -> Told {
-    let is_formless = matches!(fault.kind, NamesFaultKind::TooLong | NamesFaultKind::Form);
-    if is_formless && looks_like_record(text.bytes) {
-        return put_other_text(said, "record");
+    if let Kind::TooLong | Kind::Form = fault.kind
+        && let Some(other) = other_text(text)
+    {
+        let words =
+            "this looks like a {}; --names takes lines `@ COWN NAME` and `= ROW NAME [ARG ..]`";
+        return said.tell(words, &[Words(other)]);
     }
-    if is_formless && is_of_program(text.bytes) {
-        return put_other_text(said, "program");
-    }
-    match fault.kind {
-        NamesFaultKind::Cut => said.about("the last line has no line feed", &[]),
-        NamesFaultKind::TooLong if line.len() > MOST_LINE => {
-            said.about("a line has at most 80 bytes", &[])
-        }
-        NamesFaultKind::TooLong => said.about("a names file has at most 8 MiB", &[]),
-        NamesFaultKind::Form => put_form(said, line),
-        NamesFaultKind::NoRow => put_no_row(said, input),
-        NamesFaultKind::NoCown => put_no_cown(said, input),
-        NamesFaultKind::Twice => put_twice(said, text.bytes, line, fault.line),
-        NamesFaultKind::Memory => Ok(()),
-    }
+    let reason = match fault.kind {
+        Kind::Cut => "the last line has no line feed",
+        Kind::TooLong if line.len() > MOST_LINE => "a line has at most 80 bytes",
+        Kind::TooLong => "a names file has at most 8 MiB",
+        Kind::Form => return put_form(said, line),
+        Kind::NoRow => return put_no_row(said, input),
+        Kind::NoCown => return put_no_cown(said, input),
+        Kind::Twice => return put_twice(said, text, line, fault.line),
+        Kind::Memory => return Ok(()),
+    };
+    said.about(reason, &[])
 }
 
-// Reports that another text is where names are wanted.
-fn put_other_text(said: &mut Said, found: &str) -> Told {
-    said.tell(
-        "this looks like a {}; --names takes lines `@ COWN NAME` and `= ROW NAME [ARG ..]`",
-        &[Words(found)],
-    )
-}
-
-// The first line that says something, and is no comment, is one of a program.
-fn is_of_program(text: &[u8]) -> bool {
-    for line in text.split(is_feed) {
-        if !line.is_empty() && !line.starts_with(b"#") {
-            return line.split(is_space).next().is_some_and(is_first_word);
-        }
-    }
-    false
+// Returns which other text is where names are wanted: the first line that says something, and is no comment, is one of a program, or the first one of a record.
+fn other_text(text: &[u8]) -> Option<&'static str> {
+    let is_told = |line: &&[u8]| !line.is_empty() && !line.starts_with(b"#");
+    let first = text.split(is_feed).find(is_told).unwrap_or(b"");
+    let word = first.split(is_space).next().unwrap_or(b"");
+    first_case(&[
+        (looks_like_record(text), "record"),
+        (is_first_word(word), "program"),
+    ])
 }
 
 // Reports what is wrong with a line that has none of the forms.
@@ -146,58 +134,50 @@ fn put_no_row(said: &mut Said, input: Text<'_>) -> Told {
         return said.about("the run has no row with this number", &[]);
     }
     let count = run_before(said.alloc, input.bytes, u64::MAX)?.count() as u64;
-    said.about(
-        "the record has rows 0 to ",
-        &[Number(count.saturating_sub(1))],
-    )
+    let last = Number(count.saturating_sub(1));
+    said.about("the record has rows 0 to ", &[last])
 }
 
 // Reports which cowns there are.
 fn put_no_cown(said: &mut Said, input: Text<'_>) -> Told {
-    let known = match record_cowns(input.bytes) {
-        Some(count) => Some(u64::from(count)),
-        None => program_cowns(said.alloc, input.bytes)?,
-    };
-    match known {
+    match counted_cowns(said.alloc, input.bytes) {
         None => Ok(()),
-        Some(0) => said.about("the run has no cowns", &[]),
-        Some(count) => said.about(
-            "the run has cowns 0 to ",
-            &[Number(count.saturating_sub(1))],
-        ),
+        Some((_, 0)) => said.about("the run has no cowns", &[]),
+        Some((_, count)) => {
+            let last = Number(count.saturating_sub(1));
+            said.about("the run has cowns 0 to ", &[last])
+        }
     }
 }
 
-/// Returns how many cowns the first line of a record reports.
-pub(crate) fn record_cowns(text: &[u8]) -> Option<u32> {
-    if !looks_like_record(text) {
-        return None;
+/// Returns what an input is, and how many cowns it has, if that is known: as many as the first line of a record reports, or as a program has.
+pub(crate) fn counted_cowns(alloc: Global, text: &[u8]) -> Option<(&'static str, u64)> {
+    if looks_like_record(text) {
+        let header = text.split(is_feed).next()?;
+        if let Some(count) = header.rsplit(is_space).next().and_then(read_number) {
+            return Some(("record", u64::from(count)));
+        }
     }
-    let header = text.split(is_feed).next()?;
-    read_number(header.rsplit(is_space).next()?)
+    Some(("program", program_cowns(alloc, text)?))
 }
 
 /// Returns how many cowns a program has, the members of arrays counted.
-pub(crate) fn program_cowns(alloc: Global, text: &[u8]) -> Result<Option<u64>, AllocError> {
-    let Ok(program) = read_program(alloc, text) else {
-        return Ok(None);
-    };
+pub(crate) fn program_cowns(alloc: Global, text: &[u8]) -> Option<u64> {
+    let program = read_program(alloc, text).ok()?;
     let mut count: u64 = 0;
     for cown in program.cowns.as_slice() {
         count = count.saturating_add(cown.members() as u64);
     }
-    Ok(Some(count))
+    Some(count)
 }
 
-// The sign and the number of a line that has one of the forms.
+// Returns the sign and the number of a line that has one of the forms.
 fn thing_of(line: &[u8]) -> Option<(u8, u32)> {
-    match line {
-        [sign @ (b'=' | b'@'), b' ', fields @ ..] => {
-            let number = read_number(fields.split(is_space).next()?)?;
-            Some((*sign, number))
-        }
-        _ => None,
-    }
+    let [sign @ (b'=' | b'@'), b' ', fields @ ..] = line else {
+        return None;
+    };
+    let number = read_number(fields.split(is_space).next()?)?;
+    Some((*sign, number))
 }
 
 // Reports which line before this one names the same.
@@ -224,28 +204,27 @@ pub(crate) fn called(alloc: Global, listings: Vec<DefListing>) -> Result<Vec<Nam
     Ok(names)
 }
 
-/// Returns the names of the rows of a record as its program has them. None where they can't be reported.
-pub(crate) fn names_by_program(
-    alloc: Global,
-    text: &[u8],
-    program: &[u8],
-) -> Result<Option<Names>, AllocError> {
+/// The names of the rows and the cowns of a record; none where they can't be reported.
+pub(crate) type Called = Result<Option<Names>, AllocError>;
+
+/// Returns the names in a record as its program has them.
+pub(crate) fn names_by_program(alloc: Global, text: &[u8], program: &[u8]) -> Called {
     let Ok((program, listings)) = read_listed(alloc, program) else {
         return Ok(None);
     };
-    let Ok(record) = read_record(alloc, &mut Bytes::new(Vec::from_slice(alloc, text)?)) else {
-        return Ok(None);
-    };
-    names_of_record(alloc, &program, listings, &record)
+    match read_record(alloc, &mut Bytes::new(Vec::from_slice(alloc, text)?)) {
+        Ok(record) => names_of_record(alloc, &program, listings, &record),
+        Err(_) => Ok(None),
+    }
 }
 
-// Returns the names of the rows of a record as this program has them, whose defs are listed so. None where it is of no run of the program.
+// Returns the names in a record as this program has them, whose defs are listed so, if it is of a run of the program.
 fn names_of_record(
     alloc: Global,
     program: &Program,
     listings: Vec<DefListing>,
     record: &Record,
-) -> Result<Option<Names>, AllocError> {
+) -> Called {
     let compiled = CompiledProgram::new(alloc, program)?;
     match follow_record(alloc, &compiled, record, &mut Silent) {
         Ok(follower) => names_of_followed(alloc, &follower, listings),
@@ -253,23 +232,15 @@ fn names_of_record(
     }
 }
 
-// Returns the names of the rows of a run that was followed, whose defs are listed so.
-fn names_of_followed(
-    alloc: Global,
-    follower: &Follower<'_>,
-    listings: Vec<DefListing>,
-) -> Result<Option<Names>, AllocError> {
+// Returns the names in a run that was followed, whose defs are listed so.
+fn names_of_followed(alloc: Global, follower: &Follower<'_>, listings: Vec<DefListing>) -> Called {
     let rows = follower.instances(alloc)?;
     let names = names_of_run(alloc, follower.program(), &called(alloc, listings)?, &rows)?;
     Ok(Some(names))
 }
 
-/// Returns the names of the rows and the cowns of a record as a file has them, if there is one, and else their numbers. None where they can't be reported.
-pub(crate) fn names_by_file(
-    alloc: Global,
-    text: &[u8],
-    file: Option<&[u8]>,
-) -> Result<Option<Names>, AllocError> {
+/// Returns the names in a record as a file has them, if there is one, and else their numbers.
+pub(crate) fn names_by_file(alloc: Global, text: &[u8], file: Option<&[u8]>) -> Called {
     let run = run_before(alloc, text, u64::MAX)?;
     if run.count() > MOST_ROWS {
         return Ok(None);
@@ -281,8 +252,8 @@ pub(crate) fn names_by_file(
     }
 }
 
-// Returns the names that a file gives to the rows and the cowns with these numbers. None where they can't be reported.
-fn named_in(alloc: Global, file: &[u8], numbers: Names) -> Result<Option<Names>, AllocError> {
+// Returns the names that a file gives to the rows and the cowns with these numbers.
+fn named_in(alloc: Global, file: &[u8], numbers: Names) -> Called {
     let fits = numbers.defs.len() == numbers.rows.len()
         && numbers.rows.len() <= MOST_ROWS
         && numbers.families.len() == numbers.cowns.len()

@@ -25,11 +25,8 @@ pub(crate) fn line_at<'a>(text: Text<'a>, number: u64) -> Option<&'a [u8]> {
     let before = number.checked_sub(1)? as usize;
     let mut lines = text.bytes.split(is_feed).skip(before);
     let line = lines.next()?;
-    if text.whole || lines.next().is_some() {
-        Some(line)
-    } else {
-        None
-    }
+    let is_known = text.whole || lines.next().is_some();
+    is_known.then_some(line)
 }
 
 /// Returns the run that the lines before the line with this number tell; one with no rows where the first line is faulty.
@@ -68,12 +65,8 @@ pub(crate) fn life_of(run: &Judge, row: u32) -> Option<Life> {
 
 /// Returns the last child of a row among these rows, and its offset.
 pub(crate) fn last_child(rows: &[Row], parent: u32) -> Option<(u64, u32)> {
-    let mut found = None;
     // Main is nobody's child, although its parent is 0.
-    for (child, row) in rows.iter().enumerate().skip(1) {
-        if row.parent == parent {
-            found = Some((child as u64, row.offset));
-        }
-    }
-    found
+    let mut children = rows.iter().enumerate().skip(1);
+    let (child, row) = children.rfind(|(_, row)| row.parent == parent)?;
+    Some((child as u64, row.offset))
 }

@@ -9,7 +9,7 @@ use crate::names::{called, program_cowns};
 use crate::record::is_first_version;
 use crate::run::line_at;
 use boc_eval::Instance;
-use boc_follow::{Follower, StrayFault, StrayFaultKind, TakeFault};
+use boc_follow::{Follower, StrayFault, StrayFaultKind as Kind, TakeFault};
 use boc_names::{CownNames, behaviour_text, def_names};
 use boc_program::cowns::rising_cowns;
 use boc_program::limits::MOST_COWNS;
@@ -22,9 +22,20 @@ use boc_runs::event::Event;
 use boc_runs::record::Record;
 use boc_said::place::Text;
 use boc_said::said::Part::{Bytes as Shown, Many, Quote, Words};
-use boc_said::said::{Said, Told};
+use boc_said::said::{Explained, Said, Told};
 use boc_text::{Bytes, put_number};
 use std::alloc::{AllocError, Global};
+
+// The event of a record that diverges from a program.
+#[derive(Clone, Copy)]
+struct Strayed<'a> {
+    record: &'a Record,
+    place: usize,
+    // The record is of the first version, in which ends have no cowns.
+    is_first: bool,
+    // What the defs of the program are called.
+    defs: &'a [Vec<u8>],
+}
 
 /// Returns what is reported after the line of its fault of a record that diverges from this program.
 pub fn explain_stray(
@@ -32,7 +43,7 @@ pub fn explain_stray(
     text: Text<'_>,
     program: Text<'_>,
     fault: StrayFault,
-) -> Result<String, AllocError>
+) -> Explained
     ensures { IfOk result (λ told. AreLinesOf (option_copied text.entry.name) (string_bytes told)) }
 {
     let mut said = Said::new(alloc);
@@ -45,11 +56,11 @@ pub fn explain_stray(
 }
 
 fn put_stray(said: &mut Said, text: Text<'_>, program: Text<'_>, fault: StrayFault) -> Told {
-    if fault.kind == StrayFaultKind::Memory {
+    if fault.kind == Kind::Memory {
         return Ok(());
     }
-    if fault.kind == StrayFaultKind::OtherCowns {
-        return match program_cowns(said.alloc, program.bytes)? {
+    if fault.kind == Kind::OtherCowns {
+        return match program_cowns(said.alloc, program.bytes) {
             Some(count) => said.about("the program has ", &[Many(count, "cown")]),
             None => Ok(()),
         };
@@ -60,8 +71,7 @@ fn put_stray(said: &mut Said, text: Text<'_>, program: Text<'_>, fault: StrayFau
     if is_known && put_at(said, text.bytes, program.bytes, place)? {
         return Ok(());
     }
-    let is_spawn = fault.kind == StrayFaultKind::NotNextSpawn;
-    let reason = if is_spawn {
+    let reason = if fault.kind == Kind::NotNextSpawn {
         "in the program its parent spawns at another tick, over other cowns, or no more"
     } else {
         "in the program it ends after other ticks, with other cowns written, or spawns first"
@@ -78,53 +88,50 @@ fn put_at(said: &mut Said, text: &[u8], program: &[u8], place: usize) -> Result<
     let Ok(record) = read_record(alloc, &mut Bytes::new(Vec::from_slice(alloc, text)?)) else {
         return Ok(false);
     };
-    let defs = def_names(alloc, &called(alloc, listings)?)?;
+    let (record, is_first) = (&record, is_first_version(text));
+    let defs = &def_names(alloc, &called(alloc, listings)?)?;
     put_of_program(
         said,
         &program,
-        &record,
-        &defs,
-        place,
-        is_first_version(text),
+        Strayed {
+            record,
+            place,
+            is_first,
+            defs,
+        },
     )
 }
 
-// Reports what this program, whose defs are called so, does instead of the event at this place of the record. Answers whether that is known.
+// Reports what this program does instead of an event. Answers whether that is known.
 fn put_of_program(
     said: &mut Said,
     program: &Program,
-    record: &Record,
-    defs: &[Vec<u8>],
-    place: usize,
-    is_first: bool,
+    strayed: Strayed<'_>,
 ) -> Result<bool, AllocError> {
     let compiled = CompiledProgram::new(said.alloc, program)?;
     let mut run = Follower::new(said.alloc, &compiled)?;
-    put_instead(said, &mut run, record, defs, place, is_first)
+    put_instead(said, &mut run, strayed)
 }
 
-// Reports what a program that runs does instead of the event at this place of the record. Answers whether that is known.
+// Reports what a program that runs does instead of an event. Answers whether that is known.
 fn put_instead(
     said: &mut Said,
     run: &mut Follower<'_>,
-    record: &Record,
-    defs: &[Vec<u8>],
-    place: usize,
-    is_first: bool,
+    strayed: Strayed<'_>,
 ) -> Result<bool, AllocError> {
-    let Some(event) = event_at(run, record, place)? else {
+    let Some(event) = event_at(run, strayed.record, strayed.place)? else {
         return Ok(false);
     };
     let Some(next) = next_of(run, row_of(&event)) else {
         return Ok(false);
     };
-    put_next(said, &next, &event, is_first)?;
-    put_names(said, run, defs, &event)?;
-    put_differences(said, &next, &event, is_first)?;
+    put_next(said, &next, &event, strayed.is_first)?;
+    put_names(said, run, strayed.defs, &event)?;
+    put_differences(said, &next, &event, strayed.is_first)?;
     Ok(true)
 }
 
-// The event at a place of a record, once the events before it are taken.
+// Returns the event at a place of a record, once the events before it are taken.
 fn event_at(
     run: &mut Follower<'_>,
     record: &Record,
@@ -144,7 +151,7 @@ fn event_at(
     Ok(Some(events.get(place)))
 }
 
-// The row of an event: that which spawns, starts or ends.
+// Returns the row of an event: that which spawns, starts or ends.
 fn row_of(event: &Event) -> u32 {
     match event {
         Event::Spawn { parent, .. } => *parent,
@@ -152,7 +159,7 @@ fn row_of(event: &Event) -> u32 {
     }
 }
 
-// The event by which a row of a run goes on, if it runs.
+// Returns the event by which a row of a run goes on, if it runs.
 fn next_of(run: &Follower<'_>, row: u32) -> Option<Event> {
     match run.next_wish(row) {
         Some(wish) => Some(Event::Spawn {
@@ -165,14 +172,20 @@ fn next_of(run: &Follower<'_>, row: u32) -> Option<Event> {
     }
 }
 
-// Whether two events are ends that wrote other cowns.
-fn write_others(next: &Event, event: &Event) -> bool {
-    match (next, event) {
-        (Event::End { written, .. }, Event::End { written: noted, .. }) => {
-            written.as_slice() != noted.as_slice()
-        }
-        _ => false,
+// Returns the tick of a spawn, or the ticks and the status of an end, and the cowns of either.
+#[rattlefmt::skip]
+fn told_of(event: &Event) -> (u32, u32, &[CownNo]) {
+    match event {
+        Event::Spawn { offset, cowns, .. } => (*offset, 0, cowns),
+        Event::End { ticks, status, written, .. } => (*ticks, *status as u32, written),
+        Event::Start { .. } => (0, 0, &[]),
     }
+}
+
+// Returns whether two events are ends that wrote other cowns.
+fn write_others(next: &Event, event: &Event) -> bool {
+    let are_ends = matches!((next, event), (Event::End { .. }, Event::End { .. }));
+    are_ends && told_of(next).2 != told_of(event).2
 }
 
 // Reports the line of a record that has what a row does next. In the first version ends have no cowns.
@@ -230,39 +243,30 @@ fn put_names(said: &mut Said, run: &Follower<'_>, defs: &[Vec<u8>], event: &Even
 
 // Reports in what the event that a program has and that of the record differ, where both are of one kind.
 fn put_differences(said: &mut Said, next: &Event, event: &Event, is_first: bool) -> Told {
-    if let Event::Spawn { offset, cowns, .. } = next
-        && let Event::Spawn {
-            offset: told,
-            cowns: held,
-            ..
-        } = event
-    {
-        put_numbers(said, "it spawns it at its tick ", *offset, *told)?;
-        put_cowns(said, "it spawns it over ", cowns, held)?;
-    }
-    if let Event::End {
-        ticks,
-        status,
-        written,
-        ..
-    } = next
-        && let Event::End {
-            ticks: told,
-            status: other,
-            written: noted,
-            ..
-        } = event
-    {
-        put_numbers(said, "its ticks are ", *ticks, *told)?;
-        put_numbers(said, "its status is ", *status as u32, *other as u32)?;
-        if is_first && write_others(next, event) {
-            let written = cowns_text(said.alloc, written)?;
-            let words = "it writes {}, and in version 1 a record says that it writes all its cowns";
-            return said.tell(words, &[Shown(&written)]);
+    let (is, status, cowns) = told_of(next);
+    let (told, other, held) = told_of(event);
+    match (next, event) {
+        (Event::Spawn { .. }, Event::Spawn { .. }) => {
+            put_numbers(said, "it spawns it at its tick ", is, told)?;
+            put_cowns(said, "it spawns it over ", cowns, held)
         }
-        put_cowns(said, "it writes ", written, noted)?;
+        (Event::End { .. }, Event::End { .. }) => {
+            put_numbers(said, "its ticks are ", is, told)?;
+            put_numbers(said, "its status is ", status, other)?;
+            if is_first && cowns != held {
+                return put_untold(said, cowns);
+            }
+            put_cowns(said, "it writes ", cowns, held)
+        }
+        _ => Ok(()),
     }
-    Ok(())
+}
+
+// Reports which cowns a row writes in the program, where the first version of records can't say that.
+fn put_untold(said: &mut Said, cowns: &[CownNo]) -> Told {
+    let written = cowns_text(said.alloc, cowns)?;
+    let words = "it writes {}, and in version 1 a record says that it writes all its cowns";
+    said.tell(words, &[Shown(&written)])
 }
 
 // Reports two numbers, where they differ: the program's, and the record's.
@@ -279,15 +283,13 @@ fn put_cowns(said: &mut Said, words: &str, cowns: &[CownNo], told: &[CownNo]) ->
     if cowns == told {
         return Ok(());
     }
-    let (cowns, told) = (
-        cowns_text(said.alloc, cowns)?,
-        cowns_text(said.alloc, told)?,
-    );
+    let cowns = cowns_text(said.alloc, cowns)?;
+    let told = cowns_text(said.alloc, told)?;
     let parts = [Words(words), Shown(&cowns), Shown(&told)];
     said.tell("{}{}, and the record has ", &parts)
 }
 
-// Cowns by their numbers.
+// Returns cowns by their numbers.
 fn cowns_text(alloc: Global, cowns: &[CownNo]) -> Result<Vec<u8>, AllocError> {
     let words: &[u8] = match cowns {
         [] => b"no cown",

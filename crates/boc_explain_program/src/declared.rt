@@ -1,7 +1,7 @@
-// What a text declares, and where.
+// What names of a text are declared as.
 
 use crate::spot::{Spot, Word};
-use std::alloc::{AllocError, Global};
+use boc_reader::{Keyword, Sign, Token};
 
 /// What a name is declared as.
 #[derive(Clone, Copy, PartialEq, Eq)]
@@ -38,93 +38,68 @@ impl Thing {
     }
 }
 
-/// A name that is declared.
-#[derive(Clone, Copy)]
-pub(crate) struct Declaration<'a> {
-    pub(crate) name: Word<'a>,
-    pub(crate) thing: Thing,
+/// Returns what a name after this token is declared as, where the token itself would have been declared as this if it were a name.
+pub(crate) fn next_thing(thing: Option<Thing>, token: Token<'_>) -> Option<Thing> {
+    match (token, thing) {
+        (Token::Keyword(Keyword::Cown), _) => Some(Thing::Cown),
+        (Token::Keyword(Keyword::Def), _) => Some(Thing::Def),
+        (Token::Keyword(Keyword::Let), _) => Some(Thing::Local),
+        (Token::Sign(Sign::Close), _) => None,
+        (Token::Sign(Sign::Semicolon), Some(Thing::Parameter)) => Some(Thing::CownParameter),
+        (Token::Sign(Sign::Semicolon), _) => None,
+        (_, Some(Thing::Def)) => Some(Thing::Parameter),
+        (_, Some(Thing::Parameter | Thing::CownParameter)) => thing,
+        _ => None,
+    }
 }
 
-/// Returns what a text with these words declares, in its order.
-pub(crate) fn declarations<'a>(
-    alloc: Global,
-    words: &[Word<'a>],
-) -> Result<Vec<Declaration<'a>>, AllocError> {
-    let mut declared = Vec::new(alloc);
-    // What a name is declared as here, if it is.
-    let mut next = None;
-    for (place, word) in words.iter().enumerate() {
-        if let Some(thing) = next
-            && word.is_name()
-        {
-            let is_array = words
-                .get(place.saturating_add(1))
-                .is_some_and(|it| it.is("["));
-            let is_cown = thing == Thing::Cown;
-            let thing = if is_cown && is_array {
-                Thing::Array
-            } else {
-                thing
-            };
-            declared.push(Declaration { name: *word, thing })?;
+/// Returns what a token is declared as before this other one, where a name would be declared as this.
+pub(crate) fn thing_of(
+    next: Option<Thing>,
+    token: Token<'_>,
+    behind: Option<Token<'_>>,
+) -> Option<Thing> {
+    match (token, next, behind) {
+        (Token::Name(_), Some(Thing::Cown), Some(Token::Sign(Sign::OpenIndex))) => {
+            Some(Thing::Array)
         }
-        next = next_thing(next, word);
-    }
-    Ok(declared)
-}
-
-// Returns what a name after this word is declared as, where the word itself would have been declared as this.
-fn next_thing(thing: Option<Thing>, word: &Word<'_>) -> Option<Thing> {
-    match word.bytes {
-        b"cown" => Some(Thing::Cown),
-        b"def" => Some(Thing::Def),
-        b"let" => Some(Thing::Local),
-        b")" => None,
-        b";" => match thing {
-            Some(Thing::Parameter) => Some(Thing::CownParameter),
-            _ => None,
-        },
-        _ => match thing {
-            Some(Thing::Def) => Some(Thing::Parameter),
-            Some(Thing::Parameter | Thing::CownParameter) => thing,
-            _ => None,
-        },
+        (Token::Name(_), _, _) => next,
+        _ => None,
     }
 }
 
-/// Returns how many of these parameters the def at this place has, of all that a text declares.
-pub(crate) fn count_taken(declared: &[Declaration<'_>], at: usize, thing: Thing) -> u64 {
+/// Returns how many of these parameters the def at this place has, among the words of a text.
+pub(crate) fn count_taken(words: &[Word<'_>], at: usize, thing: Thing) -> u64 {
     let mut count: u64 = 0;
     let mut is_own = false;
-    for it in declared {
-        if it.thing == Thing::Def {
-            is_own = it.name.at == at;
+    for word in words {
+        if word.thing == Some(Thing::Def) {
+            is_own = word.at == at;
         }
-        if is_own && it.thing == thing {
+        if is_own && word.thing == Some(thing) {
             count = count.saturating_add(1);
         }
     }
     count
 }
 
-/// Finds what else declares the name at a place: first among the parameters and locals of its body, or else first among the cowns and defs.
-pub(crate) fn other_of<'a>(
-    declared: &[Declaration<'a>],
-    spot: Spot<'a>,
-    body_first: bool,
-) -> Option<Declaration<'a>> {
+/// Finds where and as what else the name at a place is declared: first among the parameters and locals of its body, or else first among the cowns and defs.
+pub(crate) fn other_of(spot: Spot<'_>, body_first: bool) -> Option<(usize, Thing)> {
     let begin = spot.front.iter().rev().find(|word| word.is("def main"));
     let end = spot.rest.iter().find(|word| word.is("def main"));
     let begin = begin.map_or(0, |word| word.at);
     let end = end.map_or(usize::MAX, |word| word.at);
     let mut of_top = None;
     let mut of_body = None;
-    for it in declared {
-        if it.name.bytes == spot.after(0) && it.name.at != spot.at {
-            if !it.thing.is_of_body() {
-                of_top = of_top.or(Some(*it));
-            } else if begin <= it.name.at && it.name.at < end {
-                of_body = of_body.or(Some(*it));
+    for word in spot.words {
+        if let Some(thing) = word.thing
+            && word.bytes == spot.after(0)
+            && word.at != spot.at
+        {
+            if !thing.is_of_body() {
+                of_top = of_top.or(Some((word.at, thing)));
+            } else if begin <= word.at && word.at < end {
+                of_body = of_body.or(Some((word.at, thing)));
             }
         }
     }

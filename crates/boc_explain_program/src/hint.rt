@@ -4,9 +4,10 @@ use self::Only::{
     Always, Array, Block, Closed, Condition, Declared, Fourth, Has, Lead, NoDef, NoThird, Number,
     Unnumbered,
 };
+use self::shared::*;
 use crate::allowed::Allowed;
 use crate::spot::{Spot, Word};
-use boc_said::said::{Part, Said, Told};
+use boc_said::said::{Part, Said, Told, first_case};
 
 // A hint and when it applies: the word before the place, the one found there, and the next one are each among those listed, with a blank between them,
 // and a missing one is empty.
@@ -46,34 +47,24 @@ enum Only {
     Block,
 }
 
-const ELSE_IF: &str = "an `else` takes a block: `else { if .. { .. } }`";
-
-const COMMENT: &str = "a comment begins with `#` and ends with its line";
-
-const COWNS_BEHIND: &str =
-    "values come first, then a `;`, then cowns: `(x, y; a, b)`, or `(; a, b)` without values";
-
-const COWNS_FIRST: &str = "declare cowns before the defs: `cown NAME = 0;`";
-
-const MAIN_ALONE: &str = "write `main { .. }` on its own, after the defs";
-
-const NAMES_ALONE: &str = "parameters are only names: those after the `;` are cowns";
-
-const IF_STATEMENT: &str = "an `if` is a statement, not a value: `if .. { .. } else { .. }`";
-
-const BLOCK: &str = "a block is `{ .. }`";
-
-const COWN_OUTSIDE: &str = "declare a cown outside the bodies: `cown NAME = 0;`";
-
-const IN_A_BODY: &str = "statements belong in a body: that of a def, or of `main { .. }`";
-
-const NO_PARENTHESIS: &str = "this `)` has no matching `(`";
-
-const OF_A_COWN: &str =
-    "a body reads and writes only its parameters: pass it the member in the `when` that spawns it";
-
-const NO_MEMBERS: &str =
-    "a parameter or a `let` is one number: only a `cown NAME[N]` of the program has members";
+// Hints of several rules.
+#[rattlefmt::skip]
+mod shared {
+    pub(super) const ELSE_IF: &str = "an `else` takes a block: `else { if .. { .. } }`";
+    pub(super) const COMMENT: &str = "a comment begins with `#` and ends with its line";
+    pub(super) const COWNS_BEHIND: &str = "values come first, then a `;`, then cowns: `(x, y; a, b)`, or `(; a, b)` without values";
+    pub(super) const COWNS_FIRST: &str = "declare cowns before the defs: `cown NAME = 0;`";
+    pub(super) const MAIN_ALONE: &str = "write `main { .. }` on its own, after the defs";
+    pub(super) const NAMES_ALONE: &str = "parameters are only names: those after the `;` are cowns";
+    pub(super) const IF_STATEMENT: &str = "an `if` is a statement, not a value: `if .. { .. } else { .. }`";
+    pub(super) const BLOCK: &str = "a block is `{ .. }`";
+    pub(super) const COWN_OUTSIDE: &str = "declare a cown outside the bodies: `cown NAME = 0;`";
+    pub(super) const IN_A_BODY: &str = "statements belong in a body: that of a def, or of `main { .. }`";
+    pub(super) const NO_PARENTHESIS: &str = "this `)` has no matching `(`";
+    pub(super) const OF_A_COWN: &str = "a body reads and writes only its parameters: pass it the member in the `when` that spawns it";
+    pub(super) const NO_MEMBERS: &str = "a parameter or a `let` is one number: only a `cown NAME[N]` of the program has members";
+    pub(super) const NO_TYPE: &str = "a def has no type and returns no value";
+}
 
 // Where a declaration may begin.
 #[rattlefmt::skip]
@@ -157,8 +148,6 @@ static OTHER: [Rule; 15] = [
     Rule(")", ANY, ANY, Has("{"), BLOCK),
 ];
 
-const NO_TYPE: &str = "a def has no type and returns no value";
-
 // After a name at the beginning of a statement, the same for all names.
 #[rattlefmt::skip]
 static STATEMENT: [Rule; 13] = [
@@ -233,22 +222,18 @@ fn opens_block(rest: &[Word<'_>]) -> bool {
     end.is_some_and(|word| word.is("{"))
 }
 
-// Returns whether the text declares this name with this keyword.
-fn declares(spot: Spot<'_>, keyword: &str, name: &[u8]) -> bool {
+// Returns whether the text declares this name with one of these keywords, separated by blanks.
+fn declares(spot: Spot<'_>, keywords: &str, name: &[u8]) -> bool {
     let mut pairs = spot.words.iter().zip(spot.words.iter().skip(1));
-    pairs.any(|(word, next)| word.is(keyword) && next.bytes == name)
+    pairs.any(|(word, next)| word.is(keywords) && next.bytes == name)
 }
 
 /// Says whether since the last brace of these words more parentheses are opened than closed.
 pub(crate) fn is_open(front: &[Word<'_>]) -> bool {
     let mut depth: usize = 0;
     for word in front {
-        match word.bytes {
-            b"{" | b"}" => depth = 0,
-            b"(" => depth = depth.saturating_add(1),
-            b")" => depth = depth.saturating_sub(1),
-            _ => {}
-        }
+        let inner = word.depth(depth, "(", ")");
+        depth = if word.is("{ }") { 0 } else { inner };
     }
     depth > 0
 }
@@ -283,12 +268,11 @@ fn rules_of(allowed: &Allowed) -> &'static [Rule] {
 fn put_statement(said: &mut Said, spot: Spot<'_>, allowed: &Allowed) -> Told {
     let name = spot.before(0);
     let is_called = spot.follows(0, "(");
-    if is_called && declares(spot, "def", name) {
+    let hint = first_hint(&STATEMENT, spot, allowed);
+    if is_called && (hint.is_none() || declares(spot, "def", name)) {
         put_spawn(said, spot, name)
-    } else if let Some(hint) = first_hint(&STATEMENT, spot, allowed) {
+    } else if let Some(hint) = hint {
         said.words(hint)
-    } else if is_called {
-        put_spawn(said, spot, name)
     } else if spot.precedes(0, "spawn When go async") {
         put_spawn(said, spot, spot.after(0))
     } else if spot.precedes(0, DECLARING) {
@@ -304,10 +288,10 @@ fn put_statement(said: &mut Said, spot: Spot<'_>, allowed: &Allowed) -> Told {
 fn put_spawn(said: &mut Said, spot: Spot<'_>, name: &[u8]) -> Told {
     let called = [Part::Bytes(name)];
     said.tell("spawn a behaviour with `when {}(values; cowns);`", &called)?;
+    let words = "and declare it with `def {}(values; cowns) { .. }`: there are no other calls";
     if declares(spot, "def", name) {
         return Ok(());
     }
-    let words = "and declare it with `def {}(values; cowns) { .. }`: there are no other calls";
     said.tell(words, &called)
 }
 
@@ -315,38 +299,33 @@ fn put_spawn(said: &mut Said, spot: Spot<'_>, name: &[u8]) -> Told {
 const DECLARING: &str = "mut int long var const auto";
 
 // Appends how a local is declared, for a declaration by a word of other languages, or by two.
+#[rattlefmt::skip]
 fn put_local(said: &mut Said, spot: Spot<'_>) -> Told {
     let is_second = spot.follows(0, DECLARING) && spot.follows(2, "=");
     let place = usize::from(is_second);
     let name = spot.after(place);
-    let words = if declares(spot, "cown", name) || declares(spot, "def", name) {
-        "declare a local with `let NAME = ..;`; `{}` is taken"
-    } else if spot.has_keyword(place) {
-        "declare a local with `let NAME = ..;`; `{}` is a keyword"
-    } else if spot.follows(place.saturating_add(1), "[") {
-        "only cowns have arrays, declared before the defs: `cown {}[N] = 0;`"
-    } else if declares(spot, "let", name) {
-        "declare a local with `let {} = ..;`, once, and change it without `let`"
-    } else {
-        "declare a local with `let {} = ..;`"
-    };
-    said.tell(words, &[Part::Bytes(name)])
+    let words = first_case(&[
+        (declares(spot, "cown def", name), "declare a local with `let NAME = ..;`; `{}` is taken"),
+        (spot.has_keyword(place), "declare a local with `let NAME = ..;`; `{}` is a keyword"),
+        (spot.follows(place.saturating_add(1), "["), "only cowns have arrays, declared before the defs: `cown {}[N] = 0;`"),
+        (declares(spot, "let", name), "declare a local with `let {} = ..;`, once, and change it without `let`"),
+    ]);
+    said.tell(words.unwrap_or("declare a local with `let {} = ..;`"), &[Part::Bytes(name)])
 }
 
 // Appends how a variable is changed, for a sign that other languages write before `=`, or twice.
+#[rattlefmt::skip]
 fn put_change(said: &mut Said, spot: Spot<'_>) -> Told {
     let (name, sign) = (spot.before(0), spot.after(0));
-    let words = if declares(spot, "def", name) {
-        return said.words("only a `when` can name a def");
-    } else if declares(spot, "cown", name) {
-        return said.words(
-            "a body reads and writes only its parameters: pass it the cown in the `when` that spawns it",
-        );
-    } else if spot.follows(0, "+ -") && spot.after(1) == sign {
-        "write the change in full: `{} = {} {} 1;`"
-    } else {
-        "write the change in full: `{} = {} {} ..;`"
-    };
+    let is_twice = spot.follows(0, "+ -") && spot.after(1) == sign;
+    let refused = first_case(&[
+        (declares(spot, "def", name), "only a `when` can name a def"),
+        (declares(spot, "cown", name), "a body reads and writes only its parameters: pass it the cown in the `when` that spawns it"),
+    ]);
+    if let Some(words) = refused {
+        return said.words(words);
+    }
+    let words = if is_twice { "write the change in full: `{} = {} {} 1;`" } else { "write the change in full: `{} = {} {} ..;`" };
     let name = Part::Bytes(name);
     said.tell(words, &[name, name, Part::Bytes(sign)])
 }

@@ -18,17 +18,9 @@ use boc_program::limits::{
 };
 
 // The lines name these limits.
-const _: () = prove!(MOST_ARGUMENTS == 8);
+const _: () = prove!(MOST_ARGUMENTS == 8 && MOST_HELD == 8 && MOST_DEFS == 64);
 
-const _: () = prove!(MOST_COWNS == 256);
-
-const _: () = prove!(MOST_DEFS == 64);
-
-const _: () = prove!(MOST_HELD == 8);
-
-const _: () = prove!(MOST_NODES == 1_000);
-
-const _: () = prove!(MOST_ROWS == 65_535);
+const _: () = prove!(MOST_COWNS == 256 && MOST_NODES == 1_000 && MOST_ROWS == 65_535);
 
 pub use program::explain_program;
 pub use spawning::{AtDepth, explain_behaviours};

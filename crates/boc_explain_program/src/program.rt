@@ -3,15 +3,16 @@
 use crate::counted::{put_too_many, put_wrong_count};
 use crate::named::{put_taken, put_unknown};
 use crate::shaped::put_unexpected;
-use crate::spot::{Spot, words_of};
-use boc_reader::{ReadFault, ReadFaultKind};
+use crate::spot::{Spot, is_among, words_of};
+use boc_reader::{ReadFault, ReadFaultKind as Kind};
 use boc_said::place::{
     Place, Text, has_start, looks_like_names, looks_like_record, put_names_file, put_nothing,
     put_pair,
 };
-use boc_said::said::{Part, Said, Told};
+use boc_said::said::Part::{Hex, Number, Quote, Words};
+use boc_said::said::{Explained, Said, Told, first_case};
 use boc_said::view::{first_line, last_line, put_place};
-use std::alloc::{AllocError, Global};
+use std::alloc::Global;
 
 /// Returns what is reported of a program text after the line of its fault. There is nothing to report where the place of the fault wasn't kept.
 pub fn explain_program(
@@ -19,22 +20,28 @@ pub fn explain_program(
     text: Text<'_>,
     place: Place<'_>,
     fault: ReadFault,
-) -> Result<String, AllocError> {
+) -> Explained {
     let mut said = Said::new(alloc);
     said.set_place(u64::from(fault.line), 1);
+    put_text(&mut said, text, place, fault)?;
+    said.into_text(text.name)
+}
+
+fn put_text(said: &mut Said, text: Text<'_>, place: Place<'_>, fault: ReadFault) -> Told {
     let at = fault.at as usize;
     if text.bytes.is_empty() && text.whole {
-        put_nothing(&mut said, text)?;
+        put_nothing(said, text)
     } else if looks_like_record(text.bytes) {
-        put_record(&mut said, place)?;
+        put_record(said, place)
     } else if looks_like_names(text.bytes) {
-        put_names_file(&mut said)?;
+        put_names_file(said)
     } else if has_start(text.bytes) {
-        said.words("this looks like a record, but its first line is not `boc 2 COWNS`")?;
+        said.words("this looks like a record, but its first line is not `boc 2 COWNS`")
     } else if at <= text.bytes.len() {
-        put_fault(&mut said, text.bytes, fault.kind, at)?;
+        put_fault(said, text.bytes, fault.kind, at)
+    } else {
+        Ok(())
     }
-    said.into_text(text.name)
 }
 
 // Writes that a record is where a program is wanted.
@@ -42,30 +49,21 @@ fn put_record(said: &mut Said, place: Place<'_>) -> Told {
     if place.is_of_pair() {
         return put_pair(said, place, true);
     }
-    said.tell(
-        "this looks like a record; {} reads programs: check, profile, whatif, curve, sweep, why and cowns read records",
-        &[Part::Words(place.command)],
-    )
+    let words =
+        "this looks like a record; {} reads programs: check, profile, whatif, curve, sweep, why and cowns read records";
+    said.tell(words, &[Words(place.command)])
 }
 
-fn put_fault(said: &mut Said, text: &[u8], kind: ReadFaultKind, at: usize) -> Told {
+fn put_fault(said: &mut Said, text: &[u8], kind: Kind, at: usize) -> Told {
     match kind {
-        ReadFaultKind::TooLong => said.words("a program text has at most 65536 bytes"),
-        ReadFaultKind::Memory => Ok(()),
-        ReadFaultKind::NotAscii | ReadFaultKind::BadToken | ReadFaultKind::NumberTooLarge => {
+        Kind::TooLong => said.words("a program text has at most 65536 bytes"),
+        Kind::Memory => Ok(()),
+        Kind::NotAscii | Kind::BadToken | Kind::NumberTooLarge => {
             put_place(said, text, at)?;
             let (front, rest) = text.split_at(at.min(text.len()));
             put_no_token(said, kind, front, rest)
         }
-        ReadFaultKind::Unexpected => {
-            let words = words_of(said.alloc, text)?;
-            put_unexpected(said, Spot::new(text, &words, at))
-        }
-        ReadFaultKind::UnknownName
-        | ReadFaultKind::NameTaken
-        | ReadFaultKind::WrongCount
-        | ReadFaultKind::TooMany => {
-            put_place(said, text, at)?;
+        _ => {
             let words = words_of(said.alloc, text)?;
             put_word(said, kind, Spot::new(text, &words, at))
         }
@@ -73,52 +71,49 @@ fn put_fault(said: &mut Said, text: &[u8], kind: ReadFaultKind, at: usize) -> To
 }
 
 // Writes about a fault of the word at a place.
-fn put_word(said: &mut Said, kind: ReadFaultKind, spot: Spot<'_>) -> Told {
+fn put_word(said: &mut Said, kind: Kind, spot: Spot<'_>) -> Told {
+    if kind == Kind::Unexpected {
+        return put_unexpected(said, spot);
+    }
+    put_place(said, spot.text, spot.at)?;
     match kind {
-        ReadFaultKind::UnknownName => put_unknown(said, spot),
-        ReadFaultKind::NameTaken => put_taken(said, spot),
-        ReadFaultKind::WrongCount => put_wrong_count(said, spot),
+        Kind::UnknownName => put_unknown(said, spot),
+        Kind::NameTaken => put_taken(said, spot),
+        Kind::WrongCount => put_wrong_count(said, spot),
         _ => put_too_many(said, spot),
     }
 }
 
-// A byte of which names, keywords and numbers are made.
+// Returns whether names, keywords and numbers are made of such bytes.
 fn is_name_byte(byte: u8) -> bool {
     byte.is_ascii_alphanumeric() || byte == b'_'
 }
 
 // Writes about bytes after this front that form no token: a number that is none, a name that is too long, or a byte that begins none.
-fn put_no_token(said: &mut Said, kind: ReadFaultKind, front: &[u8], rest: &[u8]) -> Told {
+#[rattlefmt::skip]
+fn put_no_token(said: &mut Said, kind: Kind, front: &[u8], rest: &[u8]) -> Told {
     let size = rest.iter().take_while(|byte| is_name_byte(**byte)).count();
     let (run, _) = rest.split_at(size.min(rest.len()));
     let first = rest.first().copied().unwrap_or(0);
-    let (byte, quoted) = (Part::Hex(first), Part::Quote(run));
-    let (words, part) = if let ReadFaultKind::NotAscii = kind {
-        (
-            "the byte {} is not ASCII; programs are ASCII, their comments too",
-            byte,
-        )
-    } else if let ReadFaultKind::NumberTooLarge = kind {
-        (
-            "{} is above 9223372036854775807, the largest number",
-            quoted,
-        )
-    } else if !first.is_ascii_graphic() {
-        ("the byte {} is not a token", byte)
-    } else if run.is_empty() {
+    let is_sign = first.is_ascii_graphic() && run.is_empty();
+    if kind == Kind::BadToken && is_sign {
         return put_sign(said, first, front, rest);
-    } else if first == b'0' && run.iter().all(u8::is_ascii_digit) {
-        ("{}: a number can't begin with 0, except 0 itself", quoted)
-    } else if first.is_ascii_digit() {
-        (
-            "{}: a number has only digits, and a name can't begin with one",
-            quoted,
-        )
-    } else {
-        let words = "{}: a name has at most 32 bytes, and this one has {}";
-        return said.tell(words, &[quoted, Part::Number(size as u64)]);
-    };
-    said.tell(words, &[part])
+    }
+    let is_decimal = run.iter().all(u8::is_ascii_digit);
+    let of_byte = first_case(&[
+        (kind == Kind::NotAscii, "the byte {} is not ASCII; programs are ASCII, their comments too"),
+        (!first.is_ascii_graphic(), "the byte {} is not a token"),
+    ]);
+    let of_run = first_case(&[
+        (kind == Kind::NumberTooLarge, "{} is above 9223372036854775807, the largest number"),
+        (first == b'0' && is_decimal, "{}: a number can't begin with 0, except 0 itself"),
+        (first.is_ascii_digit(), "{}: a number has only digits, and a name can't begin with one"),
+    ]);
+    match (of_byte, of_run) {
+        (Some(words), _) => said.tell(words, &[Hex(first)]),
+        (None, Some(words)) => said.tell(words, &[Quote(run)]),
+        (None, None) => said.tell("{}: a name has at most 32 bytes, and this one has {}", &[Quote(run), Number(size as u64)]),
+    }
 }
 
 // Writes about a sign between this front and the rest, which it begins, and what is written instead of it here.
@@ -129,53 +124,38 @@ fn put_sign(said: &mut Said, sign: u8, front: &[u8], rest: &[u8]) -> Told {
     } else {
         other_words(sign, front, behind)
     };
-    said.tell(
-        "{} is not a token{}",
-        &[Part::Quote(bytes), Part::Words(instead)],
-    )
+    let parts = [Quote(bytes), Words(instead.unwrap_or(""))];
+    said.tell("{} is not a token{}", &parts)
 }
 
 // After such a word a block begins, here or in other languages.
-static OPENING: [&[u8]; 7] = [
-    b"if", b"repeat", b"else", b"main", b"while", b"for", b"elif",
-];
+const OPENING: &str = "if repeat else main while for elif";
 
 const BLOCK: &str = ": a block is `{ .. }`";
 
 const ENDED: &str = ": a statement ends with `;`";
 
-const INTEGERS: &str = ": values are integers";
-
 // Returns what is written here instead of what a colon between these bytes is in other languages.
-fn colon_words(front: &[u8], behind: &[u8]) -> &'static str {
+#[rattlefmt::skip]
+fn colon_words(front: &[u8], behind: &[u8]) -> Option<&'static str> {
     let line = in_block(last_line(front));
     let next = behind.first().copied().unwrap_or(b'\n');
     let then = behind.get(1).copied().unwrap_or(b'\n');
-    if next == b'=' && front.ends_with(b"=") {
-        ": compare two values with `==`"
-    } else if next == b'=' {
-        ": declare a local with `let NAME = ..;`, and change it with `NAME = ..;`"
-    } else if OPENING.iter().any(|word| has_word(line, word)) {
-        BLOCK
-    } else if has_word(line, b"when") && is_list_open(line) {
-        ": a spawn is `when NAME(values; cowns);`"
-    } else if has_word(line, b"def") && line.contains(&b')') && !opens_block(behind) {
-        BLOCK
-    } else if matches!(next, b'\n' | b'\r') {
-        ENDED
-    } else if next == b' ' && then.is_ascii_alphabetic() {
-        ": there are no types, all values are integers"
-    } else {
-        ""
-    }
+    first_case(&[
+        (next == b'=' && front.ends_with(b"="), ": compare two values with `==`"),
+        (next == b'=', ": declare a local with `let NAME = ..;`, and change it with `NAME = ..;`"),
+        (has_word(line, OPENING), BLOCK),
+        (has_word(line, "when") && is_list_open(line), ": a spawn is `when NAME(values; cowns);`"),
+        (has_word(line, "def") && line.contains(&b')') && !opens_block(behind), BLOCK),
+        (next == b'\n' || next == b'\r', ENDED),
+        (next == b' ' && then.is_ascii_alphabetic(), ": there are no types, all values are integers"),
+    ])
 }
 
 // Returns what comes after the last brace of a line.
 fn in_block(line: &[u8]) -> &[u8] {
-    match line.iter().rposition(|byte| matches!(*byte, b'{' | b'}')) {
-        Some(brace) => line.split_at(brace.min(line.len())).1,
-        None => line,
-    }
+    let mut parts = line.rsplit(|byte| matches!(*byte, b'{' | b'}'));
+    parts.next().unwrap_or(line)
 }
 
 // Returns whether a block begins on the line of which these bytes are the rest.
@@ -189,45 +169,42 @@ fn is_list_open(line: &[u8]) -> bool {
     last == Some(&b'(')
 }
 
-// Returns whether a line has this word.
-fn has_word(line: &[u8], word: &[u8]) -> bool {
-    line.split(|byte| !is_name_byte(*byte))
-        .any(|found| found == word)
+// Returns whether a line has one of these words, separated by blanks.
+fn has_word(line: &[u8], words: &str) -> bool {
+    let mut found = line.split(|byte| !is_name_byte(*byte));
+    found.any(|word| is_among(word, words))
 }
 
 // Returns what is written here instead of what this sign between these bytes is in other languages.
-fn other_words(sign: u8, front: &[u8], behind: &[u8]) -> &'static str {
+#[rattlefmt::skip]
+fn other_words(sign: u8, front: &[u8], behind: &[u8]) -> Option<&'static str> {
     let last = front.last().copied().unwrap_or(b'\n');
     let next = behind.first().copied().unwrap_or(b'\n');
     let (is_behind_name, is_before_name) = (is_name_byte(last), is_name_byte(next));
-    match sign {
-        b'&' if next == b'&' =>
-            ": write `and` as a product, `(x == 1) * (y == 2)`, of which both sides are evaluated",
-        b'|' if next == b'|' =>
-            ": write `or` as a sum, `(x == 1) + (y == 2)`, of which both sides are evaluated",
-        b'.' => dot_words(front, last, next),
-        b'!' if last == b'=' => ": `x != y` is 1 if they differ",
-        b'!' | b'?' | b'\'' if is_behind_name => "",
-        b'!' if is_before_name || next == b'(' => ": `x == 0` is 1 if x is 0, else 0",
-        b'"' | b'\'' => ": there are no strings, all values are integers",
-        b'?' => ": an `if` is a statement, not a value: `if .. { .. } else { .. }`",
-        _ => "",
+    let is_not = sign == b'!';
+    let is_quote = sign == b'\'';
+    if sign == b'.' {
+        return dot_words(front, last, next);
     }
+    first_case(&[
+        (sign == b'&' && next == b'&', ": write `and` as a product, `(x == 1) * (y == 2)`, of which both sides are evaluated"),
+        (sign == b'|' && next == b'|', ": write `or` as a sum, `(x == 1) + (y == 2)`, of which both sides are evaluated"),
+        (is_not && last == b'=', ": `x != y` is 1 if they differ"),
+        ((is_not || is_quote || sign == b'?') && is_behind_name, ""),
+        (is_not && (is_before_name || next == b'('), ": `x == 0` is 1 if x is 0, else 0"),
+        (is_quote || sign == b'"', ": there are no strings, all values are integers"),
+        (sign == b'?', ": an `if` is a statement, not a value: `if .. { .. } else { .. }`"),
+    ])
 }
 
 // Returns what is written here instead of what a dot after this front, between these two bytes, is in other languages.
-fn dot_words(front: &[u8], last: u8, next: u8) -> &'static str {
-    if next == b'.' && has_word(last_line(front), b"for") {
-        ": the only loop is `repeat N { .. }`"
-    } else if last.is_ascii_digit() {
-        INTEGERS
-    } else if is_name_byte(last) && is_name_byte(next) {
-        ": a name has no members"
-    } else if next.is_ascii_digit() {
-        INTEGERS
-    } else if matches!(next, b'\n' | b'\r') {
-        ENDED
-    } else {
-        ""
-    }
+#[rattlefmt::skip]
+fn dot_words(front: &[u8], last: u8, next: u8) -> Option<&'static str> {
+    let is_of_number = last.is_ascii_digit() || next.is_ascii_digit() && !is_name_byte(last);
+    first_case(&[
+        (next == b'.' && has_word(last_line(front), "for"), ": the only loop is `repeat N { .. }`"),
+        (is_of_number, ": values are integers"),
+        (is_name_byte(last) && is_name_byte(next), ": a name has no members"),
+        (next == b'\n' || next == b'\r', ENDED),
+    ])
 }

@@ -7,7 +7,6 @@ use boc_reader::Expected;
 use boc_said::place::is_first_word;
 use boc_said::said::{Part, Said, Told};
 use boc_said::view::{line_number, put_place};
-use std::alloc::{AllocError, Global};
 
 // The most tokens that are reported as allowed.
 const MOST_TOLD: usize = 3;
@@ -22,6 +21,11 @@ pub(crate) fn put_unexpected(said: &mut Said, spot: Spot<'_>) -> Told {
         return Ok(());
     };
     let allowed = Allowed::of(said.alloc, &expected)?;
+    put_at(said, spot, &allowed)
+}
+
+// Writes what isn't allowed at a place where this is.
+fn put_at(said: &mut Said, spot: Spot<'_>, allowed: &Allowed) -> Told {
     let ends_line = allowed.has(b";") && is_on_later_line(spot);
     if ends_line && is_open(spot.front) && begins_statement(spot) {
         put_place(said, spot.text, spot.at)?;
@@ -37,13 +41,12 @@ pub(crate) fn put_unexpected(said: &mut Said, spot: Spot<'_>) -> Told {
     }
     put_place(said, spot.text, spot.at)?;
     put_found(said, spot)?;
-    let open = open_blocks(said.alloc, spot.front)?;
     let ends_no_block = spot.rest.is_empty() || is_first_word(spot.after(0));
-    if !open.is_empty() && ends_no_block && allowed.has(b"}") && opens_more(spot.words) {
-        return put_open(said, spot, &open);
+    if ends_no_block && allowed.has(b"}") && opens_more(spot.words) {
+        return put_open(said, spot);
     }
-    put_allowed(said, spot, &allowed)?;
-    put_hint(said, spot, &allowed)
+    put_allowed(said, spot, allowed)?;
+    put_hint(said, spot, allowed)
 }
 
 // Returns whether the word before a place is on an earlier line.
@@ -52,20 +55,6 @@ fn is_on_later_line(spot: Spot<'_>) -> bool {
     spot.front
         .last()
         .is_some_and(|last| line_number(spot.text, last.at) < line)
-}
-
-// Returns the braces that begin a block, and that none of these words closes.
-fn open_blocks<'a>(alloc: Global, words: &[Word<'a>]) -> Result<Vec<Word<'a>>, AllocError> {
-    let mut open = Vec::new(alloc);
-    for word in words {
-        if word.is("{") {
-            open.push(*word)?;
-        }
-        if word.is("}") {
-            open.pop();
-        }
-    }
-    Ok(open)
 }
 
 // Returns whether the word at a place begins a statement, or ends a block.
@@ -86,22 +75,26 @@ fn opens_more(words: &[Word<'_>]) -> bool {
     begun > ended
 }
 
-// Writes that these blocks are not closed, which begin with the outermost.
-fn put_open(said: &mut Said, spot: Spot<'_>, open: &[Word<'_>]) -> Told {
-    match open {
-        [] => Ok(()),
-        [block] => said.tell(
-            "the block that begins on line {} is not closed: a `}` is missing",
-            &[spot.line(block.at)],
-        ),
-        [outermost, .., innermost] => {
-            let count = Part::Number(open.len() as u64);
-            said.tell(
-                "{} blocks are not closed: the innermost begins on line {}, the outermost on line {}",
-                &[count, spot.line(innermost.at), spot.line(outermost.at)],
-            )
+// Writes which blocks before a place are not closed.
+#[rattlefmt::skip]
+fn put_open(said: &mut Said, spot: Spot<'_>) -> Told {
+    let mut closed: usize = 0;
+    let mut count: u64 = 0;
+    // Where the innermost of them begins, and the outermost.
+    let (mut first, mut last) = (0, 0);
+    for word in spot.front.iter().rev() {
+        if word.is("{") && closed == 0 {
+            first = if count == 0 { word.at } else { first };
+            last = word.at;
+            count = count.saturating_add(1);
         }
+        closed = word.depth(closed, "}", "{");
     }
+    if count == 1 {
+        return said.tell("the block that begins on line {} is not closed: a `}` is missing", &[spot.line(first)]);
+    }
+    let words = "{} blocks are not closed: the innermost begins on line {}, the outermost on line {}";
+    said.tell(words, &[Part::Number(count), spot.line(first), spot.line(last)])
 }
 
 // Returns whether the word is the size of an array, which is reported only where it is 0.
@@ -111,14 +104,16 @@ fn is_size(spot: Spot<'_>) -> bool {
 }
 
 // Writes what was found, and after what.
+#[rattlefmt::skip]
 fn put_found(said: &mut Said, spot: Spot<'_>) -> Told {
     let found = Part::Quote(spot.after(0));
     let is_end = spot.rest.is_empty();
     let Some(last) = spot.front.last() else {
-        if is_end {
-            return said.words("the program has no tokens");
-        }
-        return said.tell("a program can't begin with {}", &[found]);
+        return if is_end {
+            said.words("the program has no tokens")
+        } else {
+            said.tell("a program can't begin with {}", &[found])
+        };
     };
     let (before, line) = (Part::Quote(last.bytes), spot.line(last.at));
     if is_end {

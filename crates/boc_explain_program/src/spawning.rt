@@ -1,12 +1,13 @@
 // Runs that reach more behaviours than there may be.
 
+use crate::declared::Thing;
 use crate::spot::{Word, words_of};
 use boc_draws::{Depth, DrawFault, way_of};
-use boc_program::limits::{MOST_ROWS, MOST_RUNNERS};
+use boc_program::limits::MOST_RUNNERS;
 use boc_progress::Silent;
 use boc_reader::read_program;
 use boc_registers::compiled::CompiledProgram;
-use boc_said::said::{Part, Said, Told};
+use boc_said::said::{Explained, Part, Said, Told};
 use boc_said::view::line_number;
 use std::alloc::{AllocError, Global};
 
@@ -29,16 +30,9 @@ pub struct AtDepth {
 
 /// Returns what is reported of a program whose run reaches more behaviours than there may be. Where the run is drawn at a depth, that may be the run which
 /// counts the steps for it, so that one is drawn again.
-pub fn explain_behaviours(
-    alloc: Global,
-    program: &[u8],
-    drawn: Option<AtDepth>,
-) -> Result<String, AllocError> {
+pub fn explain_behaviours(alloc: Global, program: &[u8], drawn: Option<AtDepth>) -> Explained {
     let mut said = Said::new(alloc);
-    said.tell(
-        "a run has at most {} behaviours, main included, and this one has more",
-        &[Part::Number(MOST_ROWS as u64)],
-    )?;
+    said.words("a run has at most 65535 behaviours, main included, and this one has more")?;
     if let Some(drawn) = drawn {
         put_draw(&mut said, program, drawn)?;
     }
@@ -84,12 +78,10 @@ fn put_draw(said: &mut Said, program: &[u8], drawn: AtDepth) -> Told {
 fn def_names<'a>(alloc: Global, words: &[Word<'a>]) -> Result<Vec<&'a [u8]>, AllocError> {
     let mut names: Vec<&'a [u8]> = Vec::new(alloc);
     names.push(b"main")?;
-    let mut is_name = false;
     for word in words {
-        if is_name {
+        if word.thing == Some(Thing::Def) {
             names.push(word.bytes)?;
         }
-        is_name = word.is("def");
     }
     Ok(names)
 }
@@ -102,11 +94,8 @@ fn spawns_of(alloc: Global, words: &[Word<'_>], names: &[&[u8]]) -> Result<Vec<S
     let mut is_name = false;
     for word in words {
         if is_name && let Some(of) = names.iter().position(|name| word.bytes == *name) {
-            spawns.push(Spawn {
-                by,
-                of,
-                at: word.at,
-            })?;
+            let at = word.at;
+            spawns.push(Spawn { by, of, at })?;
         }
         is_name = word.is("when");
         if word.is("def") {
@@ -124,21 +113,31 @@ fn spawns_of(alloc: Global, words: &[Word<'_>], names: &[&[u8]]) -> Result<Vec<S
 fn onward_of(alloc: Global, count: usize, spawns: &[Spawn]) -> Result<Vec<Vec<bool>>, AllocError> {
     let mut onward: Vec<Vec<bool>> = Vec::new(alloc);
     for from in 0..count {
-        let mut reached = Vec::new(alloc);
-        for body in 0..count {
-            reached.push(body == from)?;
-        }
-        for _ in 0..count {
-            for spawn in spawns {
-                let comes = reached.get(spawn.by).copied().unwrap_or(false);
-                if comes && let Some(of) = reached.get_mut(spawn.of) {
-                    *of = true;
-                }
-            }
-        }
-        onward.push(reached)?;
+        onward.push(reached_from(alloc, from, count, spawns)?)?;
     }
     Ok(onward)
+}
+
+// Returns for each body whether it comes about by this one.
+fn reached_from(
+    alloc: Global,
+    from: usize,
+    count: usize,
+    spawns: &[Spawn],
+) -> Result<Vec<bool>, AllocError> {
+    let mut reached = Vec::new(alloc);
+    for body in 0..count {
+        reached.push(body == from)?;
+    }
+    for _ in 0..count {
+        for spawn in spawns {
+            let comes = reached.get(spawn.by).copied().unwrap_or(false);
+            if comes && let Some(of) = reached.get_mut(spawn.of) {
+                *of = true;
+            }
+        }
+    }
+    Ok(reached)
 }
 
 // Returns the first `when` that comes about from main on and leads back to the body in which it is.
@@ -154,23 +153,20 @@ fn first_again(alloc: Global, count: usize, spawns: &[Spawn]) -> Result<Option<S
 
 // Returns whether a body leads to another one.
 fn leads(onward: &[Vec<bool>], from: usize, to: usize) -> bool {
-    match onward.get(from) {
-        Some(reached) => reached.get(to).copied().unwrap_or(false),
-        None => false,
-    }
+    let reached = onward.get(from).and_then(|reached| reached.get(to));
+    reached.copied().unwrap_or(false)
 }
 
 // Writes about a def that spawns itself again, at once or by way of another one.
+#[rattlefmt::skip]
 fn put_again(said: &mut Said, text: &[u8], names: &[&[u8]], spawn: Spawn) -> Told {
     let by = Part::Quote(names.get(spawn.by).copied().unwrap_or(b""));
     let of = Part::Quote(names.get(spawn.of).copied().unwrap_or(b""));
     let line = Part::Number(line_number(text, spawn.at));
     if spawn.by == spawn.of {
-        let words =
-            "{} may spawn itself too often, by the `when` on line {}: check the condition that ends it";
+        let words = "{} may spawn itself too often, by the `when` on line {}: check the condition that ends it";
         return said.tell(words, &[by, line]);
     }
-    let words =
-        "{} may spawn itself too often through {}, by the `when` on line {}: check the condition that ends it";
+    let words = "{} may spawn itself too often through {}, by the `when` on line {}: check the condition that ends it";
     said.tell(words, &[by, of, line])
 }

@@ -1,5 +1,6 @@
 // A place in the words of a program text: its tokens, as bytes.
 
+use crate::declared::{Thing, next_thing, thing_of};
 use boc_reader::{Token, read_tokens};
 use boc_said::said::Part;
 use boc_said::view::line_number;
@@ -10,6 +11,8 @@ use std::alloc::{AllocError, Global};
 pub(crate) struct Word<'a> {
     pub(crate) bytes: &'a [u8],
     pub(crate) at: usize,
+    /// What it is declared as here, if it is a name that is.
+    pub(crate) thing: Option<Thing>,
     token: Token<'a>,
 }
 
@@ -22,6 +25,17 @@ impl Word<'_> {
     /// Says whether it is a name, and no keyword.
     pub(crate) fn is_name(&self) -> bool {
         matches!(self.token, Token::Name(_))
+    }
+
+    /// Returns how many brackets are open after this word, where this number of them is open before it. One of these opens a bracket, or closes it.
+    pub(crate) fn depth(&self, before: usize, begin: &str, end: &str) -> usize {
+        if self.is(begin) {
+            before.saturating_add(1)
+        } else if self.is(end) {
+            before.saturating_sub(1)
+        } else {
+            before
+        }
     }
 
     /// Says whether it is a keyword.
@@ -63,18 +77,13 @@ impl<'a> Spot<'a> {
 
     /// Returns the word that follows the place after this number of words, or nothing at the end of the text.
     pub(crate) fn after(self, skipped: usize) -> &'a [u8] {
-        match self.rest.get(skipped) {
-            Some(word) => word.bytes,
-            None => b"",
-        }
+        self.rest.get(skipped).map_or(b"", |word| word.bytes)
     }
 
     /// Returns the word before the place, with this number of words between, or nothing at the beginning of the text.
     pub(crate) fn before(self, skipped: usize) -> &'a [u8] {
-        match self.front.iter().rev().nth(skipped) {
-            Some(word) => word.bytes,
-            None => b"",
-        }
+        let mut before = self.front.iter().rev();
+        before.nth(skipped).map_or(b"", |word| word.bytes)
     }
 
     /// Says whether the word that follows the place after this number of words is one of these.
@@ -110,10 +119,19 @@ pub(crate) fn words_of(alloc: Global, text: &[u8]) -> Result<Vec<Word<'_>>, Allo
     let Some(tokens) = read_tokens(alloc, text)? else {
         return Ok(words);
     };
-    for placed in &tokens {
+    let mut next = None;
+    for (place, placed) in tokens.iter().enumerate() {
         if let Some(bytes) = text.get(placed.at..placed.end) {
+            let behind = tokens.get(place.saturating_add(1)).map(|it| it.token);
             let (at, token) = (placed.at, placed.token);
-            words.push(Word { bytes, at, token })?;
+            let thing = thing_of(next, token, behind);
+            words.push(Word {
+                bytes,
+                at,
+                thing,
+                token,
+            })?;
+            next = next_thing(next, token);
         }
     }
     Ok(words)

@@ -25,6 +25,9 @@ const DIGITS: &[u8] = b"0123456789ABCDEF";
 /// What a function that appends lines returns.
 pub type Told = Result<(), AllocError>;
 
+/// What a function that forms a whole explanation returns: its lines, each with its line feed.
+pub type Explained = Result<String, AllocError>;
+
 /// A part of a line.
 #[derive(Clone, Copy)]
 pub enum Part<'a> {
@@ -40,6 +43,12 @@ pub enum Part<'a> {
     Quote(&'a [u8]),
     /// Bytes of a text as they stand.
     Bytes(&'a [u8]),
+}
+
+/// Returns the words of the first of these cases that holds.
+pub fn first_case<'a>(cases: &[(bool, &'a str)]) -> Option<&'a str> {
+    let (_, words) = cases.iter().find(|case| case.0)?;
+    Some(*words)
 }
 
 // How a byte is shown: a tab outside quotes as a blank, and any other that can't be printed as `?`.

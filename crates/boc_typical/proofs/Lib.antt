@@ -1,0 +1,10 @@
+pub mod Counting
+pub mod Middle
+pub mod TakenCounts
+pub mod SeenMedians
+pub mod Spreading
+pub mod Offsets
+pub mod TypicalRows
+pub mod OneTypical
+pub mod LongRows
+pub mod examples

@@ -103,6 +103,10 @@ without_option = repeated (codes "without")
 abbrev pub early_option : Argument
 early_option = repeated (codes "early")
 
+-- `--typical`, by which each row takes the median ticks of its def
+abbrev pub typical_flag : Argument
+typical_flag = flag (codes "typical")
+
 -- `--short`, by which the numbers before and after are told in place of a report
 abbrev pub short_flag : Argument
 short_flag = flag (codes "short")
@@ -137,7 +141,7 @@ signature_of kinds.Run =
     (codes "run", number runners_option ∷ number seed_option ∷ number depth_option ∷ timed_flag ∷ quiet_flag ∷ input_operand ∷ [])
 signature_of kinds.Profile = (
   codes "profile",
-  number runners_option ∷ number seed_option ∷ number depth_option ∷ timed_flag ∷ number workers_option ∷ sharing_flag ∷ repeated record_file
+  number runners_option ∷ number seed_option ∷ number depth_option ∷ timed_flag ∷ number workers_option ∷ sharing_flag ∷ typical_flag ∷ repeated record_file
       ∷ no_plan_flag ∷ quiet_flag ∷ input_operand ∷ [],
 )
 signature_of kinds.Time = (
@@ -147,27 +151,27 @@ signature_of kinds.Time = (
 )
 signature_of kinds.WhatIf = (
   codes "whatif",
-  number runners_option ∷ number seed_option ∷ number depth_option ∷ timed_flag ∷ number workers_option ∷ sharing_flag ∷ without_option
+  number runners_option ∷ number seed_option ∷ number depth_option ∷ timed_flag ∷ number workers_option ∷ sharing_flag ∷ typical_flag ∷ without_option
       ∷ early_option ∷ repeated record_file ∷ repeated program_file ∷ repeated names_file ∷ short_flag ∷ no_plan_flag ∷ edits_operands ∷ [],
 )
 signature_of kinds.Curve = (
   codes "curve",
-  number runners_option ∷ number seed_option ∷ number depth_option ∷ timed_flag ∷ number workers_option ∷ sharing_flag ∷ repeated record_file
+  number runners_option ∷ number seed_option ∷ number depth_option ∷ timed_flag ∷ number workers_option ∷ sharing_flag ∷ typical_flag ∷ repeated record_file
       ∷ input_operand ∷ [],
 )
 signature_of kinds.Sweep = (
   codes "sweep",
-  number runners_option ∷ number seed_option ∷ number depth_option ∷ timed_flag ∷ number workers_option ∷ cowns_flag ∷ spawns_flag ∷ sharing_flag
+  number runners_option ∷ number seed_option ∷ number depth_option ∷ timed_flag ∷ number workers_option ∷ cowns_flag ∷ spawns_flag ∷ sharing_flag ∷ typical_flag
       ∷ repeated record_file ∷ repeated names_file ∷ number best_option ∷ input_operand ∷ [],
 )
 signature_of kinds.Why = (
   codes "why",
-  number runners_option ∷ number seed_option ∷ number depth_option ∷ timed_flag ∷ number workers_option ∷ sharing_flag ∷ repeated record_file
+  number runners_option ∷ number seed_option ∷ number depth_option ∷ timed_flag ∷ number workers_option ∷ sharing_flag ∷ typical_flag ∷ repeated record_file
       ∷ repeated names_file ∷ all_flag ∷ number then_option ∷ quiet_flag ∷ input_operand ∷ [],
 )
 signature_of kinds.Cowns = (
   codes "cowns",
-  number runners_option ∷ number seed_option ∷ number depth_option ∷ timed_flag ∷ number workers_option ∷ sharing_flag ∷ repeated record_file
+  number runners_option ∷ number seed_option ∷ number depth_option ∷ timed_flag ∷ number workers_option ∷ sharing_flag ∷ typical_flag ∷ repeated record_file
       ∷ repeated names_file ∷ number top_option ∷ quiet_flag ∷ input_operand ∷ [],
 )
 signature_of kinds.Outcomes =

@@ -230,6 +230,11 @@ files_given rows files = sum_by (λ file. length (values_at rows file)) files
 abbrev pub AreTooMany : List Text → List Row → Type 0
 AreTooMany files rows = 2 ≤ files_given rows files
 
+-- `--typical` was given, and each row takes the median ticks of its def, or it was not
+abbrev pub IsTypical : List Row → Bool → Type 0
+IsTypical rows true = IsSet rows (codes "typical")
+IsTypical rows false = IsUnset rows (codes "typical")
+
 -- `--quiet` was given, and notes are left out, or it was not
 abbrev pub IsQuiet : List Row → Bool → Type 0
 IsQuiet rows true = IsSet rows (codes "quiet")
@@ -247,28 +252,29 @@ ArePlans rows plans = AreWorkers rows plans.workers × IsUnplanned rows plans.un
 -- this was asked of `profile`
 abbrev pub AsksProfile : List Row → AskedProfile → Type 0
 AsksProfile rows asked =
-    IsSchedule rows asked.schedule × ArePlans rows asked.plans × AreShared rows asked.sharing × IsQuiet rows asked.quiet
+    IsSchedule rows asked.schedule × ArePlans rows asked.plans × AreShared rows asked.sharing × IsTypical rows asked.typical × IsQuiet rows asked.quiet
 
 -- this of `curve`
 abbrev pub AsksCurve : List Row → AskedCurve → Type 0
-AsksCurve rows asked = IsSchedule rows asked.schedule × AreUpTo rows asked.most × AreShared rows asked.sharing
+AsksCurve rows asked = IsSchedule rows asked.schedule × AreUpTo rows asked.most × AreShared rows asked.sharing × IsTypical rows asked.typical
 
 -- this of `sweep`
 abbrev pub AsksSweep : List Row → AskedSweep → Type 0
 AsksSweep rows asked =
-    IsSchedule rows asked.schedule × IsOver rows asked.over × AreShared rows asked.sharing × GivesNumber best_option rows asked.best
+    IsSchedule rows asked.schedule × IsOver rows asked.over × AreShared rows asked.sharing × IsTypical rows asked.typical
+    × GivesNumber best_option rows asked.best
 
 -- this of `why`
 abbrev pub AsksWhy : List Row → AskedWhy → Type 0
 AsksWhy rows asked =
-    IsSchedule rows asked.schedule × AreWorkers rows asked.workers × AreShared rows asked.sharing × IsAll rows asked.all
+    IsSchedule rows asked.schedule × AreWorkers rows asked.workers × AreShared rows asked.sharing × IsTypical rows asked.typical × IsAll rows asked.all
     × GivesNumber then_option rows asked.then × IsQuiet rows asked.quiet
 
 -- and this of `cowns`
 abbrev pub AsksCowns : List Row → AskedCowns → Type 0
 AsksCowns rows asked =
-    IsSchedule rows asked.schedule × AreWorkers rows asked.workers × AreShared rows asked.sharing × GivesNumber top_option rows asked.top
-    × IsQuiet rows asked.quiet
+    IsSchedule rows asked.schedule × AreWorkers rows asked.workers × AreShared rows asked.sharing × IsTypical rows asked.typical
+    × GivesNumber top_option rows asked.top × IsQuiet rows asked.quiet
 
 -- `--short` was given, and the numbers before and after are told, or it was not
 abbrev pub IsShort : List Row → Bool → Type 0
@@ -294,9 +300,10 @@ pub record AreEditsOf (words : List Text) (edits : List AskedEdit) : Type 0 wher
 abbrev pub AreEdits : List Row → List AskedEdit → Type 0
 AreEdits rows edits = AreEditsOf (edit_words rows) edits
 
--- this is to change: cowns are left out, defs spawn early, and these edits are made
+-- this is to change: rows take typical ticks, cowns are left out, defs spawn early, and these edits are made
 abbrev pub AreChanges : List Row → AskedChanges → Type 0
-AreChanges rows changes = AreCowns rows changes.cowns.items × AreEarlyDefs rows changes.early.items × AreEdits rows changes.edits.items
+AreChanges rows changes =
+    IsTypical rows changes.typical × AreCowns rows changes.cowns.items × AreEarlyDefs rows changes.early.items × AreEdits rows changes.edits.items
 
 -- of these words the one with this number, counted from 1, is the first that is no edit
 pub record IsFirstMisspelt (words : List (List ℕ)) (number : ℕ) : Type 0 where

@@ -198,6 +198,12 @@ pub(crate) const SHARING: FlagOption = FlagOption {
     help: "Plan as if rows that only read a cown shared it",
 };
 
+/// Whether each row takes the median ticks of its def.
+pub(crate) const TYPICAL: FlagOption = FlagOption {
+    id: "typical",
+    help: "Give each row the median ticks of its def",
+};
+
 /// Whether the numbers before and after are printed instead of the report.
 pub(crate) const SHORT: FlagOption = FlagOption {
     id: "short",

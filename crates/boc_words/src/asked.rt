@@ -28,6 +28,8 @@ pub enum AskedCown {
 /// What `whatif` changes of a run, in this order.
 #[derive(Drop, Debug)]
 pub struct AskedChanges {
+    /// Whether each row takes the median ticks of its def.
+    pub typical: bool,
     /// The cowns that are left out.
     pub cowns: Vec<AskedCown>,
     /// The names of the defs whose behaviours spawn early.
@@ -54,6 +56,8 @@ pub struct AskedProfile {
     pub plans: AskedPlans,
     /// How rows share cowns in plans.
     pub sharing: Sharing,
+    /// Whether each row takes the median ticks of its def.
+    pub typical: bool,
     /// Whether notes are left out.
     pub quiet: bool,
 }
@@ -67,6 +71,8 @@ pub struct AskedCurve {
     pub most: Workers,
     /// How rows share cowns in plans.
     pub sharing: Sharing,
+    /// Whether each row takes the median ticks of its def.
+    pub typical: bool,
 }
 
 /// The options of `sweep`, without the file given with its input.
@@ -78,6 +84,8 @@ pub struct AskedSweep {
     pub over: Sweep,
     /// How rows share cowns in plans.
     pub sharing: Sharing,
+    /// Whether each row takes the median ticks of its def.
+    pub typical: bool,
     /// How many of its best lines it prints, if not all.
     pub best: Option<u32>,
 }
@@ -91,6 +99,8 @@ pub struct AskedWhy {
     pub workers: Option<Workers>,
     /// How rows share cowns in plans.
     pub sharing: Sharing,
+    /// Whether each row takes the median ticks of its def.
+    pub typical: bool,
     /// Whether each row of the chain has a line of its own.
     pub all: bool,
     /// How many changes are reported at most, one on top of the other, if that is requested.
@@ -108,6 +118,8 @@ pub struct AskedCowns {
     pub workers: Option<Workers>,
     /// How rows share cowns in plans.
     pub sharing: Sharing,
+    /// Whether each row takes the median ticks of its def.
+    pub typical: bool,
     /// How many cowns are listed at most, if there is a limit.
     pub top: Option<u32>,
     /// Whether notes are left out.

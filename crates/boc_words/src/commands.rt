@@ -10,8 +10,8 @@ use crate::arguments::Argument::{Flag, Number, Repeated, Word, Words};
 use crate::arguments::{
     ALL, Argument, BEST, CURVE_WORKERS, DEPTH, DRAWN_DEPTH, DRAWN_WORKERS, EARLY, EDITS,
     FIRST_SEED, INPUT, NAMES, NO_PLAN, PROGRAM, QUIET, RECORD, RUNNERS, RUNNERS_ALONE, RUNS, SEED,
-    SHARING, SHORT, SWEEP_COWNS, SWEEP_SPAWNS, SWEEP_WORKERS, THEN, TIMED, TOP, WHY_WORKERS,
-    WITHOUT, WORKERS,
+    SHARING, SHORT, SWEEP_COWNS, SWEEP_SPAWNS, SWEEP_WORKERS, THEN, TIMED, TOP, TYPICAL,
+    WHY_WORKERS, WITHOUT, WORKERS,
 };
 use crate::version::VERSION;
 use boc_program::limits::{
@@ -124,7 +124,9 @@ Output:
                           the latest: work / N rounded down, plus the span
                           without --shared-reads, which the run doesn't know
 All numbers are ticks, except rows, workers and P. Rows and workers count from
-0. --p plans what has run: no thread executes a plan.
+0. --p plans what has run: no thread executes a plan. With --typical the rows of
+a program take the median ticks of their defs: see boc help why. Those of a
+record have no names here, and keep their ticks.
 
 Examples:
   boc time -w 4 program.boc
@@ -150,7 +152,9 @@ then a line P END LOW BOUND for each number of workers.
          rounded up, if that is greater. A plan of another run may.
   BOUND  That greedy plan ends no later (Graham, Brent): work / P rounded down,
          plus span.
-All numbers are ticks, except P.
+All numbers are ticks, except P. With --typical the rows of a program take the
+median ticks of their defs: see boc help why. Those of a record have no names
+here, and keep their ticks.
 
 Examples:
   boc curve --p 8 program.boc
@@ -181,6 +185,9 @@ The plan is the earliest plan, whose end is the span. With --p it is the greedy
 plan (list schedule) for P workers, which may end later although a row takes
 fewer ticks. --spawns goes with neither --cowns nor --p. With --p each line is
 planned from nothing: the time grows with the square of the number of rows.
+
+With --typical each row takes the median ticks of its def: see boc help why. The
+rows of a record have names only with --names; without them nothing changes.
 
 With --best, the lines that end soonest come first, and have a third number, the
 gain: NUMBER END LESS.
@@ -298,6 +305,16 @@ standard error says if the timed run on P workers, at most 16, has another span,
 unless --quiet is given. When that run ends is another number: add --timed to
 see it.
 
+Of a record, a note says if rows that take over 20 times the median ticks of
+their def take more than a tenth of all ticks, unless --quiet is given.
+
+With --typical each row takes the median of the ticks of its def's rows (of two
+in the middle the lower one), or as many as its spawns need. Its spawns move by
+the same part, rounded up, each at least a tick after the one before it. That
+takes out rows that took long by chance, and levels what differs on purpose too.
+Rows without names are defs of their own, so they keep their ticks. All that is
+printed is of these rows; both notes, and `end E on N workers`, are left out.
+
 Four or more rows of one def that follow each other on the chain are folded into
 one line, unless --all is given. The other lists stop after 20 lines.
 
@@ -374,7 +391,8 @@ Then come a lower bound for any order, a better order if one was found, and with
 --p what P workers take and what limits them, as in boc why; and the span with
 --shared-reads if that is smaller.
 
-With --p the note on the timed run may come, as in boc help why.
+The notes on the timed run, with --p, and on long rows of a record may come, as
+in boc help why, which also says what --typical does.
 
 Names are those of the program or of the file for --names, which boc help why
 describes. Without either, cowns have their numbers. -w, --seed, --depth and
@@ -398,7 +416,7 @@ program, and FILE has its run. On 2 or more threads a call may get another run
 than the one before; with --seed or --timed each gets the same.
 
 Every other argument is an edit. Edits are made in the order given, after
---without and --early; K and D are 1 to 1,000:
+--typical, --without and --early; K and D are 1 to 1,000:
   ROW=TICKS     Set the ticks of a row. Its children are spawned at the same
                 ticks as before. TICKS below 1, or below the offset of the row's
                 last child (the tick that spawns it), is refused as BelowSpawn.
@@ -416,6 +434,9 @@ is left out imposes no order; all other orders stay as they are.
 its tick 1, and each further child one tick later. boc why lists this change as
 `early spawns by DEF`.
 
+--typical gives each row the median ticks of its def, before all other changes:
+see boc help why. Without names nothing changes.
+
 Output: the lines of boc profile, or with --short:
   work, span    Before and after, and how the span changes. With --p also the
                 end of the greedy plan, before and after, and how it changes.
@@ -423,9 +444,9 @@ Output: the lines of boc profile, or with --short:
 
 Names of defs and cowns are those of the program: the input, or for a record the
 one in --program FILE. Those in --names FILE replace them one by one. Without
-any, `row 2` is the def of row 2, and `cown 0` a cown. A number always means a
-row or a cown. Give only one of --record, --program and --names. Lines of a file
-of names:
+any, `row 2` is the def of row 2, and `cown 0` a cown. A number in an edit or
+after --without always means a row or a cown; --early takes names alone. Give
+only one of --record, --program and --names. Lines of a file of names:
   @ NUMBER NAME          The name of a cown. The first is 0, members of an array
                          count. x[0] and x[1] are members of an array x[*].
   = ROW NAME [ARG ..]    The name of a row; rows of one NAME are one def
@@ -635,6 +656,7 @@ const PROFILE: Entry = Entry {
         Flag(TIMED),
         Number(WORKERS),
         Flag(SHARING),
+        Flag(TYPICAL),
         Repeated(RECORD),
         Flag(NO_PLAN),
         Flag(QUIET),
@@ -670,6 +692,7 @@ const WHATIF: Entry = Entry {
         Flag(TIMED),
         Number(WORKERS),
         Flag(SHARING),
+        Flag(TYPICAL),
         Repeated(WITHOUT),
         Repeated(EARLY),
         Repeated(RECORD),
@@ -692,6 +715,7 @@ const CURVE: Entry = Entry {
         Flag(TIMED),
         Number(CURVE_WORKERS),
         Flag(SHARING),
+        Flag(TYPICAL),
         Repeated(RECORD),
         Word(INPUT),
     ],
@@ -710,6 +734,7 @@ const SWEEP: Entry = Entry {
         Flag(SWEEP_COWNS),
         Flag(SWEEP_SPAWNS),
         Flag(SHARING),
+        Flag(TYPICAL),
         Repeated(RECORD),
         Repeated(NAMES),
         Number(BEST),
@@ -728,6 +753,7 @@ const WHY: Entry = Entry {
         Flag(TIMED),
         Number(WHY_WORKERS),
         Flag(SHARING),
+        Flag(TYPICAL),
         Repeated(RECORD),
         Repeated(NAMES),
         Flag(ALL),
@@ -748,6 +774,7 @@ const COWNS: Entry = Entry {
         Flag(TIMED),
         Number(WHY_WORKERS),
         Flag(SHARING),
+        Flag(TYPICAL),
         Repeated(RECORD),
         Repeated(NAMES),
         Number(TOP),

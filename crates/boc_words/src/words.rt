@@ -21,7 +21,7 @@ ghost use Rattle.std.specs.Prelude.{◌≡◌, ◌∷◌, ◌<◌, ◌^◌, ◌�
 use crate::arguments::{
     ALL, BEST, DEPTH, EARLY, EDITS, INPUT, NAMES, NO_PLAN, NumberOption, Numbers, PROGRAM, QUIET,
     RECORD, RUNNERS, RUNS, RepeatedOption, SEED, SHARING, SHORT, SWEEP_COWNS, SWEEP_SPAWNS, THEN,
-    TIMED, TOP, WITHOUT, WORKERS,
+    TIMED, TOP, TYPICAL, WITHOUT, WORKERS,
 };
 use crate::asked::{
     AskedChanges, AskedCown, AskedCowns, AskedCurve, AskedDraws, AskedEdit, AskedPlans,
@@ -250,6 +250,7 @@ fn asked_profile(alloc: Global, matches: &ArgMatches) -> Result<Command, WordsFa
             schedule: schedule_asked(alloc, matches)?,
             plans: plans_asked(alloc, matches)?,
             sharing: sharing_asked(matches),
+            typical: is_set(texts_at(matches, TYPICAL.id)),
             quiet: is_set(texts_at(matches, QUIET.id)),
         },
         record: file_asked(alloc, matches, &RECORD)?,
@@ -294,6 +295,7 @@ fn asked_curve(alloc: Global, matches: &ArgMatches) -> Result<Command, WordsFaul
             schedule: schedule_asked(alloc, matches)?,
             most: most_asked(alloc, matches)?,
             sharing: sharing_asked(matches),
+            typical: is_set(texts_at(matches, TYPICAL.id)),
         },
         record: file_asked(alloc, matches, &RECORD)?,
     })
@@ -309,6 +311,7 @@ fn asked_sweep(alloc: Global, matches: &ArgMatches) -> Result<Command, WordsFaul
             over: over_asked(alloc, matches)?,
             schedule: schedule_asked(alloc, matches)?,
             sharing: sharing_asked(matches),
+            typical: is_set(texts_at(matches, TYPICAL.id)),
             best: small_number_asked(alloc, matches, &BEST)?,
         },
         file: run_file_asked(alloc, matches)?,
@@ -325,6 +328,7 @@ fn asked_why(alloc: Global, matches: &ArgMatches) -> Result<Command, WordsFault>
             schedule: schedule_asked(alloc, matches)?,
             workers: workers_asked(alloc, matches)?,
             sharing: sharing_asked(matches),
+            typical: is_set(texts_at(matches, TYPICAL.id)),
             all: is_set(texts_at(matches, ALL.id)),
             then: small_number_asked(alloc, matches, &THEN)?,
             quiet: is_set(texts_at(matches, QUIET.id)),
@@ -343,6 +347,7 @@ fn asked_cowns(alloc: Global, matches: &ArgMatches) -> Result<Command, WordsFaul
             schedule: schedule_asked(alloc, matches)?,
             workers: workers_asked(alloc, matches)?,
             sharing: sharing_asked(matches),
+            typical: is_set(texts_at(matches, TYPICAL.id)),
             top: small_number_asked(alloc, matches, &TOP)?,
             quiet: is_set(texts_at(matches, QUIET.id)),
         },
@@ -506,6 +511,7 @@ fn changes_asked(alloc: Global, matches: &ArgMatches) -> Result<AskedChanges, Wo
     ensures refused { IfErr result (IsOfEditWords (rows_of (found_of matches.now))) }
 {
     Ok(AskedChanges {
+        typical: is_set(texts_at(matches, TYPICAL.id)),
         cowns: cowns_asked(alloc, matches)?,
         early: early_asked(alloc, matches)?,
         edits: edits_asked(alloc, matches)?,

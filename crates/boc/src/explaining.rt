@@ -206,7 +206,8 @@ fn refused_edit(
         Some(edit) => word_of(alloc, edit)?,
         None => return Ok(String::new(alloc)),
     };
-    if begins_program(texts.input.as_slice()) || !changes.early.is_empty() {
+    let is_changed = changes.typical || !changes.early.is_empty();
+    if is_changed || begins_program(texts.input.as_slice()) {
         return explain_edit_of_run(alloc, &word, fault);
     }
     let asked = asked_edits(alloc, &changes.edits, number)?;

@@ -4,7 +4,9 @@ pub mod NoProgram
 pub mod OneNaming
 pub mod OneTimes
 pub mod OneNote
+pub mod OneLong
 pub mod OneOrder
 pub mod OneTold
 pub mod OneChange
 pub mod OneOfEither
+pub mod OneMeasured

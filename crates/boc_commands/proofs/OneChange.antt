@@ -44,6 +44,8 @@ use Rattle.boc_plan_commands.specs.Asked.{AreMadeEarly, all_cowns, all_edits, co
 use Rattle.boc_words.specs.declared.asked.AskedPlans.{AskedPlans}
 use Rattle.boc_run_commands.specs.NamedRuns.{IsNamedRecord}
 use Rattle.boc_plan_commands.specs.WhatIfAnswers.{AreChangedSo, IsAskedEnd, IsOutcome, IsReportAfter, IsShortReport, IsWhatIfAnswer, IsWhatIfReport}
+use Rattle.boc_plan_commands.specs.WhatIfAnswers.{IsMeasuredReport}
+use Rattle.boc_commands.proofs.OneMeasured.{are_rows, one_measured}
 use Rattle.boc_plan_commands.proofs.EarlyRows.{rows_early}
 use Rattle.boc_commands.proofs.OneAnswer.{one_report, rows_are}
 use Rattle.boc_commands.proofs.OneNaming.{is_text_of, one_named_record}
@@ -189,6 +191,17 @@ one_whatif_report names others same changes sharing plans short rows hr output o
     (rows_changed rows names others same changes a.after b.after a.changed b.changed hr) output other
     (subst (λ (list : List Row). IsReportAfter short names sharing plans rows list output) after a.told) b.told
 
+-- and one of a run
+pub one_measured_report : (names others : Names) → CallTheSame names others → (changes : AskedChanges) (sharing : Sharing)
+    (plans : AskedPlans) (short : Bool) (rows : List Row) → IsRows rows → (output other : List ℕ)
+    → IsMeasuredReport names changes sharing plans short rows output → IsMeasuredReport others changes sharing plans short rows other → output ≡ other
+one_measured_report names others same changes sharing plans short rows hr output other a b =
+    let measured : a.measured ≡ b.measured =
+    one_measured changes.typical names.defs.items others.defs.items same.defs rows a.measured b.measured hr a.measured_are b.measured_are in
+    one_whatif_report names others same changes sharing plans short b.measured
+    (are_rows changes.typical others.defs.items rows b.measured hr b.measured_are) output other
+    (subst (λ (list : List Row). IsWhatIfReport names changes sharing plans short list output) measured a.told) b.told
+
 pub one_whatif_answer : (file : Option WhatIfFile) (bytes : List ℕ) (changes : AskedChanges) (sharing : Sharing)
     (plans : AskedPlans) (short : Bool) (input output other : List ℕ) → IsWhatIfAnswer file bytes changes sharing plans short input output
     → IsWhatIfAnswer file bytes changes sharing plans short input other → output ≡ other
@@ -198,5 +211,5 @@ one_whatif_answer file bytes changes sharing plans short input output other a b 
     one_record input a.recorded b.recorded (is_text_of file bytes input a.recorded a.names a.named) is in
     let called : CallTheSame a.names b.names = one_named_record file bytes input b.recorded a.names b.names
     (subst (λ (r : Recorded). IsNamedRecord file bytes input r a.names) recorded a.named) b.named in
-    one_whatif_report a.names b.names called changes sharing plans short b.recorded.rows (rows_are b.recorded is.record_is) output other
-    (subst (λ (r : Recorded). IsWhatIfReport a.names changes sharing plans short r.rows output) recorded a.report) b.report
+    one_measured_report a.names b.names called changes sharing plans short b.recorded.rows (rows_are b.recorded is.record_is) output other
+    (subst (λ (r : Recorded). IsMeasuredReport a.names changes sharing plans short r.rows output) recorded a.report) b.report

@@ -23,17 +23,42 @@ use Rattle.boc_words.specs.declared.schedule.Schedule.{Schedule}
 use Rattle.boc_plan_commands.specs.declared.program_input.Supplied.{Supplied}
 use Rattle.boc_plan_commands.specs.declared.program_input.Supplied.TheVariants.{Nothing, Record, Names as NamesFile}
 use Rattle.boc_run_commands.specs.Answers.{IsCurveTold, IsReport, first_of}
+use Rattle.boc_run_commands.specs.Measured.{AreMeasured}
 use Rattle.boc_run_commands.specs.NamedRuns.{IsRecordNumbered}
 use Rattle.boc_run_commands.specs.Notes.{AreWanted, TellsProfile, notes_of_rows}
 use Rattle.boc_plan_commands.specs.Tells.{TellsProfileOf, TellsProgramProfile}
 use Rattle.boc_plan_commands.specs.ProgramInputs.{IsCurveOf, IsProgramCurve, IsProgramRun, supplied_to}
 use Rattle.boc_plan_commands.specs.SweepAnswers.{AnswersSweep, AreAllTold, AreBestTold, AreTold, IsNamedSweep, IsNumberedSweep, IsProgramSweep, IsRecordSweep}
 use Rattle.boc_plan_commands.specs.SweepAnswers.{IsSwept, are_named, best_text, called_of, lines_text}
-use Rattle.boc_plan_commands.specs.WhatIfAnswers.{AnswersWhatIf, IsProgramWhatIf, IsWhatIfReport}
+use Rattle.boc_plan_commands.specs.WhatIfAnswers.{AnswersWhatIf, IsMeasuredReport, IsProgramWhatIf}
 use Rattle.boc_commands.proofs.OneAnswer.{one_best, one_best_answer, one_curve_answer, one_curve_told, one_profile_answer, one_report, one_sweep_answer}
 use Rattle.boc_commands.proofs.OneAnswer.{one_swept, one_unswept, rows_are}
-use Rattle.boc_commands.proofs.OneChange.{one_whatif_answer, one_whatif_report}
+use Rattle.boc_commands.proofs.OneChange.{one_measured_report, one_whatif_answer}
+use Rattle.boc_commands.proofs.OneMeasured.{are_rows, one_measured}
 use Rattle.boc_commands.proofs.OneNaming.{no_run_of_record, one_numbered, one_program_named, program_is_record}
+
+-- ---- rows that are reported on
+
+-- what two answers to a program have that tell of one run: the same names, and the same rows that are reported on
+record AreOne (names others : Names) (list other : List Row) : Type 0 where
+  called : CallTheSame names others
+  rows : IsRows other
+  measured : list ≡ other
+
+one_of_program : (typical : Bool) (schedule : Schedule) (supplied : Supplied) (file input : List ℕ) (recorded last : Recorded) (names others : Names)
+    (measured other : List Row) → recorded ≡ last → IsProgramRun schedule supplied file input recorded names
+    → IsProgramRun schedule supplied file input last others → AreMeasured typical names.defs.items recorded.rows measured
+    → AreMeasured typical others.defs.items last.rows other → AreOne names others measured other
+one_of_program typical schedule supplied file input recorded last names others measured other same a b x y =
+    let called : CallTheSame names others = one_program_named schedule supplied file input last names others
+    (subst (λ (r : Recorded). IsProgramRun schedule supplied file input r names) same a) b in
+    let hr : IsRows last.rows = rows_are last (program_is_record schedule supplied file input last others b) in
+    record {
+      called = called;
+      rows = are_rows typical others.defs.items last.rows other hr y;
+      measured = one_measured typical names.defs.items others.defs.items called.defs last.rows measured other hr
+          (subst (λ (r : Recorded). AreMeasured typical names.defs.items r.rows measured) same x) y;
+    }
 
 -- ---- curves
 
@@ -41,9 +66,10 @@ pub one_program_curve : (asked : AskedCurve) (supplied : Supplied) (file input o
     (one : IsProgramCurve asked supplied file input output) (another : IsProgramCurve asked supplied file input other)
     → one.recorded ≡ another.recorded → output ≡ other
 one_program_curve asked supplied file input output other a b same =
-    one_curve_told asked.sharing asked.most b.recorded.rows
-    (rows_are b.recorded (program_is_record asked.schedule supplied file input b.recorded b.names b.run)) output other
-    (subst (λ (r : Recorded). IsCurveTold asked.sharing asked.most r.rows output) same a.told) b.told
+    let one = one_of_program asked.typical asked.schedule supplied file input a.recorded b.recorded a.names b.names a.measured b.measured same a.run b.run
+    a.measured_are b.measured_are in
+    one_curve_told asked.sharing asked.most b.measured one.rows output other
+    (subst (λ (rows : List Row). IsCurveTold asked.sharing asked.most rows output) one.measured a.told) b.told
 
 pub one_curve_of_record : (asked : AskedCurve) (supplied : Supplied) (file input output other : List ℕ) (recorded : Recorded) → IsTextOf input recorded
     → IsCurveOf asked supplied file input output → IsCurveOf asked supplied file input other → output ≡ other
@@ -66,14 +92,13 @@ pub one_program_profile : (asked : AskedProfile) (supplied : Supplied) (file inp
     → one.recorded ≡ another.recorded → (notes ≡ others) × (output ≡ other)
 one_program_profile asked supplied file input notes output others other a b same =
     let rows : List Row = b.recorded.rows in
-    let called : CallTheSame a.names b.names = one_program_named asked.schedule supplied file input b.recorded a.names b.names
-    (subst (λ (r : Recorded). IsProgramRun asked.schedule supplied file input r a.names) same a.run) b.run in
-    let hr : IsRows rows = rows_are b.recorded (program_is_record asked.schedule supplied file input b.recorded b.names b.run) in (
+    let one = one_of_program asked.typical asked.schedule supplied file input a.recorded b.recorded a.names b.names a.measured b.measured same a.run b.run
+    a.measured_are b.measured_are in (
       one_noted asked.quiet (notes_of_rows (texts_of b.names.rows.items) rows) notes others
-          (subst (λ (texts : List Text). AreWanted asked.quiet (λ told. told ≡ notes_of_rows texts rows) notes) called.rows
+          (subst (λ (texts : List Text). AreWanted asked.quiet (λ told. told ≡ notes_of_rows texts rows) notes) one.called.rows
           (subst (λ (r : Recorded). AreWanted asked.quiet (λ told. told ≡ notes_of_rows (texts_of a.names.rows.items) r.rows) notes) same a.noted)) b.noted,
-      one_report (seen asked.sharing rows) (rows_seen asked.sharing rows hr) asked.plans output other
-          (subst (λ (r : Recorded). IsReport (seen asked.sharing r.rows) asked.plans output) same a.report) b.report,
+      one_report (seen asked.sharing b.measured) (rows_seen asked.sharing b.measured one.rows) asked.plans output other
+          (subst (λ (list : List Row). IsReport (seen asked.sharing list) asked.plans output) one.measured a.report) b.report,
     )
 
 one_told_profile : (sharing : Sharing) (plans : AskedPlans) (quiet : Bool) (notes input output others other : List ℕ)
@@ -137,11 +162,10 @@ pub one_program_sweep : (asked : AskedSweep) (supplied : Supplied) (file input o
     (one : IsProgramSweep asked supplied file input output) (another : IsProgramSweep asked supplied file input other)
     → one.recorded ≡ another.recorded → output ≡ other
 one_program_sweep asked supplied file input output other a b same =
-    one_swept_text b.recorded.rows (rows_are b.recorded (program_is_record asked.schedule supplied file input b.recorded b.names b.run)) a.names b.names
-    (one_program_named asked.schedule supplied file input b.recorded a.names b.names
-    (subst (λ (r : Recorded). IsProgramRun asked.schedule supplied file input r a.names) same a.run) b.run)
-    asked (are_named asked supplied) output other
-    (subst (λ (r : Recorded). IsSwept r.rows a.names asked (are_named asked supplied) output) same a.told) b.told
+    let one = one_of_program asked.typical asked.schedule supplied file input a.recorded b.recorded a.names b.names a.measured b.measured same a.run b.run
+    a.measured_are b.measured_are in
+    one_swept_text b.measured one.rows a.names b.names one.called asked (are_named asked supplied) output other
+    (subst (λ (rows : List Row). IsSwept rows a.names asked (are_named asked supplied) output) one.measured a.told) b.told
 
 one_named_sweep : (asked : AskedSweep) (file input output other : List ℕ) → IsNamedSweep asked file input output → IsNamedSweep asked file input other
     → output ≡ other
@@ -149,9 +173,12 @@ one_named_sweep asked file input output other a b =
     let same : a.recorded ≡ b.recorded = one_record input a.recorded b.recorded a.named.named.spells b.named.named.spells in
     let base : CallTheSame a.named.base b.named.base = one_numbered input b.recorded a.named.base b.named.base
     (subst (λ (r : Recorded). IsRecordNumbered input r a.named.base) same a.named.named) b.named.named in
-    one_swept_text b.recorded.rows (rows_are b.recorded b.named.named.spells.record_is) a.names b.names
-    (one_naming_by_file file a.named.base b.named.base a.names b.names base a.named.renamed b.named.renamed) asked true output other
-    (subst (λ (r : Recorded). IsSwept r.rows a.names asked true output) same a.told) b.told
+    let called : CallTheSame a.names b.names = one_naming_by_file file a.named.base b.named.base a.names b.names base a.named.renamed b.named.renamed in
+    let hr : IsRows b.recorded.rows = rows_are b.recorded b.named.named.spells.record_is in
+    let measured : a.measured ≡ b.measured = one_measured asked.typical a.names.defs.items b.names.defs.items called.defs b.recorded.rows a.measured b.measured hr
+    (subst (λ (r : Recorded). AreMeasured asked.typical a.names.defs.items r.rows a.measured) same a.measured_are) b.measured_are in
+    one_swept_text b.measured (are_rows asked.typical b.names.defs.items b.recorded.rows b.measured hr b.measured_are) a.names b.names called asked true
+    output other (subst (λ (rows : List Row). IsSwept rows a.names asked true output) measured a.told) b.told
 
 one_numbered_sweep : (asked : AskedSweep) (best : Option ℕ) (input output other : List ℕ) → IsNumberedSweep asked best input output
     → IsNumberedSweep asked best input other → output ≡ other
@@ -179,11 +206,11 @@ pub one_program_whatif : (schedule : Schedule) (supplied : Supplied) (file : Lis
     (one : IsProgramWhatIf schedule supplied file changes sharing plans short input output)
     (another : IsProgramWhatIf schedule supplied file changes sharing plans short input other) → one.recorded ≡ another.recorded → output ≡ other
 one_program_whatif schedule supplied file changes sharing plans short input output other a b same =
-    one_whatif_report a.names b.names (one_program_named schedule supplied file input b.recorded a.names b.names
+    one_measured_report a.names b.names (one_program_named schedule supplied file input b.recorded a.names b.names
     (subst (λ (r : Recorded). IsProgramRun schedule supplied file input r a.names) same a.run) b.run)
     changes sharing plans short b.recorded.rows
     (rows_are b.recorded (program_is_record schedule supplied file input b.recorded b.names b.run)) output other
-    (subst (λ (r : Recorded). IsWhatIfReport a.names changes sharing plans short r.rows output) same a.report) b.report
+    (subst (λ (r : Recorded). IsMeasuredReport a.names changes sharing plans short r.rows output) same a.report) b.report
 
 pub one_whatif_of_record : (schedule : Schedule) (file : Option WhatIfFile) (bytes : List ℕ) (changes : AskedChanges)
     (sharing : Sharing) (plans : AskedPlans) (short : Bool) (input output other : List ℕ) (recorded : Recorded) → IsTextOf input recorded

@@ -30,13 +30,17 @@ use Rattle.boc_words.specs.declared.asked.AskedWhy.{AskedWhy}
 use Rattle.boc_words.specs.declared.asked.RunFile.{RunFile}
 use Rattle.boc_plan_commands.specs.CownsAnswers.{AreJudged, AreJudgedFor, AreTold, AreToldBy}
 use Rattle.boc_run_commands.specs.NamedRuns.{HasTimes, IsNamedRun}
-use Rattle.boc_run_commands.specs.Notes.{AreWanted, AreWhyNotes, notes_of_rows}
+use Rattle.boc_run_commands.specs.Notes.{AreWanted, notes_of_rows}
 use Rattle.boc_plan_commands.specs.Tells.{TellsCowns, TellsWhy}
+use Rattle.boc_plan_commands.specs.LongNotes.{ArePlanNotes}
 use Rattle.boc_plan_commands.specs.OrderAnswers.{IsOtherOrder}
+use Rattle.boc_run_commands.specs.Measured.{AreMeasured, times_measured, workers_measured}
 use Rattle.boc_run_commands.specs.TimedNotes.{workers_compared}
+use Rattle.boc_commands.proofs.OneMeasured.{are_rows, ends_measured, one_measured}
 use Rattle.boc_busy.specs.declared.timed.TimedRows.{TimedRows}
 use Rattle.boc_run_commands.specs.TimedAnswers.{end_of_times}
 use Rattle.boc_plan_commands.specs.WhyAnswers.{AreStepsTold, IsTold, IsToldOf, IsWhyTold, advised_of, asked_of}
+use Rattle.boc_commands.proofs.OneLong.{one_long_note}
 use Rattle.boc_commands.proofs.OneNote.{one_note}
 use Rattle.boc_commands.proofs.OneOrder.{one_order}
 use Rattle.boc_commands.proofs.OneTimes.{one_ends}
@@ -161,14 +165,19 @@ told_of_cowns rows hr names others same asked text other a b =
 
 -- ---- notes
 
-one_text_of_why : (sharing : Sharing) (compared : Option ℕ) (input : List ℕ) (quiet : Bool) (rows : List Row) (names others : Names)
-    → CallTheSame names others → (notes other : List ℕ) → AreWanted quiet (AreWhyNotes sharing compared input (texts_of names.rows.items) rows) notes
-    → AreWanted quiet (AreWhyNotes sharing compared input (texts_of others.rows.items) rows) other → notes ≡ other
-one_text_of_why sharing compared input true rows names others same notes other a b = a ∙ sym b
-one_text_of_why sharing compared input false rows names others same notes other a b =
-    let note : a.other ≡ b.other = one_note input compared sharing rows a.other b.other a.other_is b.other_is in
-    let text : notes_of_rows (texts_of names.rows.items) rows ++ a.other ≡ notes_of_rows (texts_of others.rows.items) rows ++ b.other =
+one_text_of_why : (sharing : Sharing) (compared : Option ℕ) (typical : Bool) (input : List ℕ) (quiet : Bool) (rows : List Row) (names others : Names)
+    → CallTheSame names others → (notes other : List ℕ) → AreWanted quiet (ArePlanNotes sharing compared typical input names rows) notes
+    → AreWanted quiet (ArePlanNotes sharing compared typical input others rows) other → notes ≡ other
+one_text_of_why sharing compared typical input true rows names others same notes other a b = a ∙ sym b
+one_text_of_why sharing compared typical input false rows names others same notes other a b =
+    let x = a.before_are in
+    let y = b.before_are in
+    let note : x.other ≡ y.other = one_note input compared sharing rows x.other y.other x.other_is y.other_is in
+    let said : notes_of_rows (texts_of names.rows.items) rows ++ x.other ≡ notes_of_rows (texts_of others.rows.items) rows ++ y.other =
     λ i. notes_of_rows (same.rows i) rows ++ note i in
+    let before : a.before ≡ b.before = x.notes_are ∙ said ∙ sym y.notes_are in
+    let long : a.long ≡ b.long = one_long_note typical input rows names.defs.items others.defs.items same.defs a.long b.long a.long_is b.long_is in
+    let text : a.before ++ a.long ≡ b.before ++ b.long = λ i. before i ++ long i in
     a.notes_are ∙ text ∙ sym b.notes_are
 
 -- ---- the answers
@@ -177,36 +186,41 @@ pub one_why_answer : (asked : AskedWhy) (file : Option RunFile) (bytes input not
     (one : TellsWhy asked file bytes notes input output) (another : TellsWhy asked file bytes others input other)
     → one.answer.recorded ≡ another.answer.recorded → (notes ≡ others) × (output ≡ other)
 one_why_answer asked file bytes input notes output others other one another same =
-    let compared : Option ℕ = workers_compared asked.schedule asked.workers file in
+    let compared : Option ℕ = workers_compared asked.schedule (workers_measured asked.typical asked.workers) file in
     let a = one.answer in
     let b = another.answer in
     let named : IsNamedRun asked.schedule file bytes input b.recorded a.names =
     subst (λ (r : Recorded). IsNamedRun asked.schedule file bytes input r a.names) same a.named in
-    let called : CallTheSame a.names b.names = one_named_run asked.schedule file bytes input b.recorded a.names b.names named b.named in (
-      one_text_of_why asked.sharing compared input asked.quiet b.recorded.rows a.names b.names called notes others
-          (subst (λ (r : Recorded). AreWanted asked.quiet (AreWhyNotes asked.sharing compared input (texts_of a.names.rows.items) r.rows) notes) same
-          one.noted)
+    let called : CallTheSame a.names b.names = one_named_run asked.schedule file bytes input b.recorded a.names b.names named b.named in
+    let hr : IsRows b.recorded.rows = rows_are b.recorded (run_is_record asked.schedule file bytes input b.recorded b.names b.named) in
+    let measured : a.measured ≡ b.measured = one_measured asked.typical a.names.defs.items b.names.defs.items called.defs b.recorded.rows a.measured b.measured hr
+    (subst (λ (r : Recorded). AreMeasured asked.typical a.names.defs.items r.rows a.measured) same a.measured_are) b.measured_are in (
+      one_text_of_why asked.sharing compared asked.typical input asked.quiet b.recorded.rows a.names b.names called notes others
+          (subst (λ (r : Recorded). AreWanted asked.quiet (ArePlanNotes asked.sharing compared asked.typical input a.names r.rows) notes) same one.noted)
           another.noted,
-      one_told b.recorded.rows (rows_are b.recorded (run_is_record asked.schedule file bytes input b.recorded b.names b.named)) a.names b.names called asked
-          a.times b.times (one_ends asked.schedule file input b.recorded.rows a.times b.times
-          (subst (λ (r : Recorded). HasTimes asked.schedule file input r.rows a.times) same a.times_are) b.times_are)
-          output other (subst (λ (r : Recorded). IsTold r.rows a.names asked a.times output) same a.told) b.told,
+      one_told b.measured (are_rows asked.typical b.names.defs.items b.recorded.rows b.measured hr b.measured_are) a.names b.names called asked
+          (times_measured asked.typical a.times) (times_measured asked.typical b.times)
+          (ends_measured asked.typical a.times b.times (one_ends asked.schedule file input b.recorded.rows a.times b.times
+          (subst (λ (r : Recorded). HasTimes asked.schedule file input r.rows a.times) same a.times_are) b.times_are))
+          output other (subst (λ (rows : List Row). IsTold rows a.names asked (times_measured asked.typical a.times) output) measured a.told) b.told,
     )
 
 pub one_cowns_answer : (asked : AskedCowns) (file : Option RunFile) (bytes input notes output others other : List ℕ)
     (one : TellsCowns asked file bytes notes input output) (another : TellsCowns asked file bytes others input other)
     → one.answer.recorded ≡ another.answer.recorded → (notes ≡ others) × (output ≡ other)
 one_cowns_answer asked file bytes input notes output others other one another same =
-    let compared : Option ℕ = workers_compared asked.schedule asked.workers file in
+    let compared : Option ℕ = workers_compared asked.schedule (workers_measured asked.typical asked.workers) file in
     let a = one.answer in
     let b = another.answer in
     let named : IsNamedRun asked.schedule file bytes input b.recorded a.names =
     subst (λ (r : Recorded). IsNamedRun asked.schedule file bytes input r a.names) same a.named in
-    let called : CallTheSame a.names b.names = one_named_run asked.schedule file bytes input b.recorded a.names b.names named b.named in (
-      one_text_of_why asked.sharing compared input asked.quiet b.recorded.rows a.names b.names called notes others
-          (subst (λ (r : Recorded). AreWanted asked.quiet (AreWhyNotes asked.sharing compared input (texts_of a.names.rows.items) r.rows) notes) same
-          one.noted)
+    let called : CallTheSame a.names b.names = one_named_run asked.schedule file bytes input b.recorded a.names b.names named b.named in
+    let hr : IsRows b.recorded.rows = rows_are b.recorded (run_is_record asked.schedule file bytes input b.recorded b.names b.named) in
+    let measured : a.measured ≡ b.measured = one_measured asked.typical a.names.defs.items b.names.defs.items called.defs b.recorded.rows a.measured b.measured hr
+    (subst (λ (r : Recorded). AreMeasured asked.typical a.names.defs.items r.rows a.measured) same a.measured_are) b.measured_are in (
+      one_text_of_why asked.sharing compared asked.typical input asked.quiet b.recorded.rows a.names b.names called notes others
+          (subst (λ (r : Recorded). AreWanted asked.quiet (ArePlanNotes asked.sharing compared asked.typical input a.names r.rows) notes) same one.noted)
           another.noted,
-      told_of_cowns b.recorded.rows (rows_are b.recorded (run_is_record asked.schedule file bytes input b.recorded b.names b.named)) a.names b.names called
-          asked output other (subst (λ (r : Recorded). AreTold r.rows a.names asked output) same a.told) b.told,
+      told_of_cowns b.measured (are_rows asked.typical b.names.defs.items b.recorded.rows b.measured hr b.measured_are) a.names b.names called asked output other
+          (subst (λ (rows : List Row). AreTold rows a.names asked output) measured a.told) b.told,
     )

@@ -1,6 +1,6 @@
 -- What is asked for means the same whatever rows are called, where none is meant by a name and cowns are called by their numbers.
 use Rattle.std.proofs.Common.{◌≡◌, ◌≢◌, ◌∙◌, ◌==◌, ◌&&◌, ◌++◌, ℕ, Bool, true, false, true≢false, List, [], ◌∷◌, String, inl, inr, length, ap, ap₂}
-use Rattle.std.proofs.Common.{suc, refl, subst, sym, arith}
+use Rattle.std.proofs.Common.{suc, not, refl, subst, sym, arith}
 use Rattle.std.specs.Prelude.{All, Err, Ok, Result, string_bytes}
 use Rattle.std.specs.Global.{Global}
 use Rattle.std.proofs.lemmas.Bool.Decides.{nat_tests}
@@ -28,9 +28,12 @@ use Rattle.boc_run_commands.specs.declared.fault.InputFault.TheVariants as input
 use Rattle.boc_run_commands.specs.declared.fault.Want.TheVariants as wants
 use Rattle.boc_run_commands.specs.Answers.{IsReport}
 use Rattle.boc_run_commands.specs.Commands.{RefusesNothing}
+use Rattle.boc_run_commands.specs.Measured.{AreMeasured}
 use Rattle.boc_plan_commands.specs.Asked.{AreAskedEarly, IsOfCowns, IsOfEarly, IsOfEdits, all_cowns, all_edits, cowns_of, edits_of, is_of_row, names_no_row}
 use Rattle.boc_plan_commands.specs.Asked.{rows_of}
-use Rattle.boc_plan_commands.specs.WhatIfAnswers.{AreChangedSo, IsOfAsked, IsReportAfter, IsWhatIfReport, RefusesAsked}
+use Rattle.boc_plan_commands.specs.WhatIfAnswers.{AreChangedSo, IsMeasuredReport, IsOfAsked, IsOfMeasured, IsReportAfter, IsWhatIfReport}
+use Rattle.boc_plan_commands.specs.WhatIfAnswers.{RefusesAsked, RefusesMeasured}
+use Rattle.boc_run_commands.proofs.MeasuredRuns.{as_they_are}
 use Rattle.boc_plan_commands.proofs.SameNames.{cowns_meant, same_cowns}
 
 -- all edits are those of rows by their numbers
@@ -58,13 +61,45 @@ no_length : {A : Type 0} (xs : List A) → (length xs == 0) ≡ true → xs ≡ 
 no_length [] none = refl
 no_length (x ∷ xs) none = absurd (true≢false (sym none ∙ is_some (length xs)))
 
--- what is asked for names no row, so no def is to spawn early, all of its edits are of rows, and it is told in full
+-- what is refused of the rows that are reported on is refused of the run
+pub refused_measured : (names : Names) (changes : AskedChanges) (rows measured : List Row) (result : Result (Unit {0}) Fault)
+    → AreMeasured changes.typical names.defs.items rows measured → RefusesAsked names changes measured result → RefusesMeasured names changes rows result
+refused_measured names changes rows measured (Ok done) are is = tt
+refused_measured names changes rows measured (Err fault) are is = go fault is
+  where
+    of : (x : Fault) → IsOfAsked names changes measured x → IsOfMeasured names changes rows x
+    of x w = record { measured = measured; measured_are = are; unfit = w }
+
+    go : (x : Fault) → RefusesAsked {A = Unit {0}} names changes measured (Err x) → RefusesMeasured {A = Unit {0}} names changes rows (Err x)
+    go (faults.Means want) w = tt
+    go (faults.Words r) w = of (faults.Words r) w
+    go (faults.Input r) w = of (faults.Input r) w
+    go (faults.Run r) w = of (faults.Run r) w
+    go faults.Unscheduled w = of faults.Unscheduled w
+
+not_true : (b : Bool) → not b ≡ true → b ≡ false
+not_true false is = refl
+not_true true is = absurd (true≢false (sym is))
+
+-- what is asked for names no row, so rows have their own ticks, no def is to spawn early, all of its edits are of rows, and it is told in full
 pub named_none : (short : Bool) (changes : AskedChanges) → names_no_row short changes ≡ true
-    → (short ≡ false) × (changes.early.items ≡ []) × AreOfRows changes.edits.items
+    → (short ≡ false) × (changes.early.items ≡ []) × AreOfRows changes.edits.items × (changes.typical ≡ false)
 named_none true changes none = absurd (true≢false (sym none))
 named_none false changes none =
-    let both = and_true (length changes.early.items == 0) (list_all is_of_row changes.edits.items) none in
-    (refl, no_length changes.early.items both.0, both.1)
+    let both = and_true (not changes.typical && (length changes.early.items == 0)) (list_all is_of_row changes.edits.items) none in
+    let plain = and_true (not changes.typical) (length changes.early.items == 0) both.0 in
+    (refl, no_length changes.early.items plain.1, both.1, not_true changes.typical plain.0)
+
+-- of rows with their own ticks the report is that of the run
+pub plain_report : (names : Names) (changes : AskedChanges) (sharing : Sharing) (plans : AskedPlans) (short : Bool) (rows : List Row) (text : List ℕ)
+    → changes.typical ≡ false → IsWhatIfReport names changes sharing plans short rows text → IsMeasuredReport names changes sharing plans short rows text
+plain_report names changes sharing plans short rows text plain told =
+    record { measured = rows; measured_are = as_they_are changes.typical names.defs.items rows plain; told = told }
+
+-- and what is refused is refused of the run
+pub plain_refused : (names : Names) (changes : AskedChanges) (rows : List Row) (result : Result (Unit {0}) Fault) → changes.typical ≡ false
+    → RefusesAsked names changes rows result → RefusesMeasured names changes rows result
+plain_refused names changes rows result plain is = refused_measured names changes rows rows result (as_they_are changes.typical names.defs.items rows plain) is
 
 module _ (a b : Names) where
   edit_meant : (x : AskedEdit) → is_of_row x ≡ true → edits_of a x ≡ edits_of b x

@@ -8,6 +8,7 @@ pub mod SameNames
 pub mod CownsParts
 pub mod ProgramRuns
 pub mod ToldParts
+pub mod LongRows
 pub mod SweptLines
 pub mod ByRows
 pub mod NumberedRuns

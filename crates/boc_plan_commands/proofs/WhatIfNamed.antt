@@ -14,7 +14,7 @@ use Rattle.boc_run_commands.specs.declared.fault.Want.{Want}
 use Rattle.boc_run_commands.specs.declared.named_run.NamedRun.{NamedRun}
 use Rattle.boc_run_commands.specs.Commands.{AnswersInput, Leaves}
 use Rattle.boc_run_commands.specs.NamedRuns.{HasRun, IsNamedRecord, ReadsNamed, RefusesNamedRecord}
-use Rattle.boc_plan_commands.specs.WhatIfAnswers.{IsOfAsked, IsWhatIfAnswer, IsWhatIfReport, RefusesAsked, RefusesSupposed, RefusesWhatIf}
+use Rattle.boc_plan_commands.specs.WhatIfAnswers.{IsMeasuredReport, IsOfMeasured, IsWhatIfAnswer, RefusesMeasured, RefusesSupposed, RefusesWhatIf}
 use Rattle.boc_words.specs.declared.asked.AskedPlans.{AskedPlans}
 use Rattle.boc_run_commands.proofs.Asked.{leaves_as, told}
 
@@ -98,43 +98,43 @@ neither first second (inr b) = second b
 -- what is asked for is refused, in the names of the record that was read
 pub refused_asked : (file : Option WhatIfFile) (bytes : List ℕ) (changes : AskedChanges) (run : NamedRun)
     (result : Result (Unit {0}) Fault) (before after : Option (List ℕ)) → ReadsNamed file bytes (Ok run) before after
-    → RefusesAsked run.names changes run.rows result → RefusesWhatIf file bytes changes result before
+    → RefusesMeasured run.names changes run.rows result → RefusesWhatIf file bytes changes result before
 refused_asked file bytes changes run (Ok done) before after read h = tt
 refused_asked file bytes changes run (Err fault) before after read h = go fault h
   where
     has : HasRun (IsNamedRecord file bytes read.0) run
     has = read.3
 
-    supposed : (x : Fault) → IsOfAsked run.names changes run.rows x → RefusesSupposed file bytes changes x before
+    supposed : (x : Fault) → IsOfMeasured run.names changes run.rows x → RefusesSupposed file bytes changes x before
     supposed x is = record {
       recorded = has.recorded;
       names = run.names;
       tells = told (λ t. IsNamedRecord file bytes t has.recorded run.names) before after read.0 read.1 read.2 has.named;
-      unfit = subst (λ (rows : List Row). IsOfAsked run.names changes rows x) has.rows_are is;
+      unfit = subst (λ (rows : List Row). IsOfMeasured run.names changes rows x) has.rows_are is;
     }
 
-    go : (x : Fault) → RefusesAsked {A = Unit {0}} run.names changes run.rows (Err x) → RefusesWhatIf {A = Unit {0}} file bytes changes (Err x) before
+    go : (x : Fault) → RefusesMeasured {A = Unit {0}} run.names changes run.rows (Err x) → RefusesWhatIf {A = Unit {0}} file bytes changes (Err x) before
     go (faults.Means w) is = wanting file bytes before w
     go (faults.Input (inputs.Cown n)) is = supposed (faults.Input (inputs.Cown n)) is
     go (faults.Input (inputs.Early n)) is = supposed (faults.Input (inputs.Early n)) is
     go (faults.Input (inputs.Edit n f)) is = supposed (faults.Input (inputs.Edit n f)) is
     go (faults.Input (inputs.Def n)) is = supposed (faults.Input (inputs.Def n)) is
-    go (faults.Input (inputs.Program r)) is = absurd (neither (λ no. no) (neither (λ after. after.unmeant) (λ after. after.unfit)) is)
-    go (faults.Input (inputs.Record r)) is = absurd (neither (λ no. no) (neither (λ after. after.unmeant) (λ after. after.unfit)) is)
-    go (faults.Input (inputs.Stray r)) is = absurd (neither (λ no. no) (neither (λ after. after.unmeant) (λ after. after.unfit)) is)
-    go (faults.Input (inputs.Beside r)) is = absurd (neither (λ no. no) (neither (λ after. after.unmeant) (λ after. after.unfit)) is)
-    go (faults.Words w) is = absurd (neither (λ no. no) (neither (λ after. after.unmeant) (λ after. after.unfit)) is)
-    go (faults.Run r) is = absurd (neither (λ no. no) (neither (λ after. after.unmeant) (λ after. after.unfit)) is)
-    go faults.Unscheduled is = absurd (neither (λ no. no) (neither (λ after. after.unmeant) (λ after. after.unfit)) is)
+    go (faults.Input (inputs.Program r)) is = absurd (neither (λ no. no) (neither (λ after. after.unmeant) (λ after. after.unfit)) is.unfit)
+    go (faults.Input (inputs.Record r)) is = absurd (neither (λ no. no) (neither (λ after. after.unmeant) (λ after. after.unfit)) is.unfit)
+    go (faults.Input (inputs.Stray r)) is = absurd (neither (λ no. no) (neither (λ after. after.unmeant) (λ after. after.unfit)) is.unfit)
+    go (faults.Input (inputs.Beside r)) is = absurd (neither (λ no. no) (neither (λ after. after.unmeant) (λ after. after.unfit)) is.unfit)
+    go (faults.Words w) is = absurd (neither (λ no. no) (neither (λ after. after.unmeant) (λ after. after.unfit)) is.unfit)
+    go (faults.Run r) is = absurd (neither (λ no. no) (neither (λ after. after.unmeant) (λ after. after.unfit)) is.unfit)
+    go faults.Unscheduled is = absurd (neither (λ no. no) (neither (λ after. after.unmeant) (λ after. after.unfit)) is.unfit)
 
 -- what goes out of it answers the input
 pub written_named : (file : Option WhatIfFile) (bytes : List ℕ) (changes : AskedChanges) (sharing : Sharing) (plans : AskedPlans)
     (short : Bool) (run : NamedRun) (result : Result (Unit {0}) Fault) (before after old new : Option (List ℕ))
-    → ReadsNamed file bytes (Ok run) before after → Leaves (IsWhatIfReport run.names changes sharing plans short run.rows) result old new
+    → ReadsNamed file bytes (Ok run) before after → Leaves (IsMeasuredReport run.names changes sharing plans short run.rows) result old new
     → Leaves (AnswersInput (IsWhatIfAnswer file bytes changes sharing plans short) before after) result old new
 written_named file bytes changes sharing plans short run result before after old new read left =
     let has : HasRun (IsNamedRecord file bytes read.0) run = read.3 in
-    leaves_as (IsWhatIfReport run.names changes sharing plans short run.rows)
+    leaves_as (IsMeasuredReport run.names changes sharing plans short run.rows)
     (AnswersInput (IsWhatIfAnswer file bytes changes sharing plans short) before after) result old new (λ made is. record {
       input = read.0;
       taken = read.1;
@@ -143,6 +143,6 @@ written_named file bytes changes sharing plans short run result before after old
         recorded = has.recorded;
         names = run.names;
         named = has.named;
-        report = subst (λ (rows : List Row). IsWhatIfReport run.names changes sharing plans short rows made) has.rows_are is;
+        report = subst (λ (rows : List Row). IsMeasuredReport run.names changes sharing plans short rows made) has.rows_are is;
       };
     }) left

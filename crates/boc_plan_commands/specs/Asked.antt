@@ -93,9 +93,10 @@ abbrev pub is_of_row : AskedEdit → Bool
 is_of_row (edits.Row edit) = true
 is_of_row (edits.Def name part) = false
 
--- no row is told by a name, in short, and none is meant by one
+-- no row is told by a name, in short, none is meant by one, and none takes the ticks that are typical of its name
 abbrev pub names_no_row : Bool → AskedChanges → Bool
-names_no_row short changes = not short && (length changes.early.items == 0) && list_all is_of_row changes.edits.items
+names_no_row short changes =
+    not short && not changes.typical && (length changes.early.items == 0) && list_all is_of_row changes.edits.items
 
 -- a row is to cost this part of what it did
 abbrev pub costs : Fraction → ℕ → Edit

@@ -18,6 +18,7 @@ use Rattle.boc_cowns_report.specs.CownsTexts.{IsCownsText}
 use Rattle.boc_cowns_report.specs.Judged.{judged_cowns}
 use Rattle.boc_words.specs.declared.asked.AskedCowns.{AskedCowns}
 use Rattle.boc_words.specs.declared.asked.RunFile.{RunFile}
+use Rattle.boc_run_commands.specs.Measured.{AreMeasured}
 use Rattle.boc_run_commands.specs.NamedRuns.{IsNamedRun}
 use Rattle.boc_plan_commands.specs.OrderAnswers.{IsOtherOrder}
 use Rattle.boc_plan_commands.specs.WhyAnswers.{asked_of}
@@ -59,9 +60,12 @@ pub record AreTold (rows : List Row) (names : Names) (asked : AskedCowns) (text 
   pub are : AreToldBy (asked_of rows names asked.sharing asked.workers) told
   pub text_is : IsCownsText names asked.sharing asked.top told text
 
--- the rows are those of the run that the input tells of, by the schedule that was asked for or with the file beside it, and the output tells of their cowns
+-- the rows are those of the run that the input tells of, by the schedule that was asked for or with the file beside it, and the output tells of their cowns,
+-- with their own ticks or typical ones
 pub record IsCownsAnswer (asked : AskedCowns) (file : Option RunFile) (bytes input output : List ℕ) : Type 0 where
   pub recorded : Recorded
   pub names : Names
   pub named : IsNamedRun asked.schedule file bytes input recorded names
-  pub told : AreTold recorded.rows names asked output
+  pub measured : List Row
+  pub measured_are : AreMeasured asked.typical names.defs.items recorded.rows measured
+  pub told : AreTold measured names asked output

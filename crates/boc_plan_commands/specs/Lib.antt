@@ -5,5 +5,6 @@ pub mod OrderAnswers
 pub mod WhyAnswers
 pub mod CownsAnswers
 pub mod Asked
+pub mod LongNotes
 pub mod WhatIfAnswers
 pub mod Tells

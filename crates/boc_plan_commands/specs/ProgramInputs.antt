@@ -3,6 +3,7 @@ use Rattle.std.specs.Prelude.{◌⊎◌, ℕ, false, List, Option, Some, None, R
 use Rattle.std.specs.Global.{Global}
 use Rattle.std.specs.Io.KnownBytes.{Keeps}
 use Rattle.boc_input.specs.Taken.{Begin, TakesText}
+use Rattle.boc_runs.specs.declared.rows.Row.{Row}
 use Rattle.boc_runs.specs.Records.{Recorded}
 use Rattle.boc_names.specs.declared.names.Names.{Names}
 use Rattle.boc_words.specs.declared.asked.AskedCurve.{AskedCurve}
@@ -19,6 +20,7 @@ use Rattle.boc_plan_commands.specs.declared.program_input.Supplied.{Supplied}
 use Rattle.boc_plan_commands.specs.declared.program_input.Supplied.TheVariants.{Nothing, Record, Names as NamesFile}
 use Rattle.boc_run_commands.specs.Answers.{IsCurveAnswer, IsCurveTold}
 use Rattle.boc_run_commands.specs.Commands.{IsOfRun}
+use Rattle.boc_run_commands.specs.Measured.{AreMeasured}
 use Rattle.boc_run_commands.specs.NamedRuns.{AreRenamed, IsOfGiven, IsOfNames, IsRunGiven, IsScheduledRun}
 
 -- ---- the file given with an input
@@ -82,7 +84,9 @@ pub record IsProgramCurve (asked : AskedCurve) (supplied : Supplied) (file input
   pub recorded : Recorded
   pub names : Names
   pub run : IsProgramRun asked.schedule supplied file input recorded names
-  pub told : IsCurveTold asked.sharing asked.most recorded.rows output
+  pub measured : List Row
+  pub measured_are : AreMeasured asked.typical names.defs.items recorded.rows measured
+  pub told : IsCurveTold asked.sharing asked.most measured output
 
 -- the output is the curve of the rows of a record, or of the run of a program
 abbrev pub IsCurveOf : AskedCurve → Supplied → List ℕ → List ℕ → List ℕ → Type 0

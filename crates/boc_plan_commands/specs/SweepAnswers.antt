@@ -15,6 +15,7 @@ use Rattle.boc_plan_commands.specs.declared.program_input.Supplied.TheVariants.{
 use Rattle.boc_run_commands.specs.Answers.{AreSwept, IsSweepAnswer, first_of}
 use Rattle.boc_plan_commands.specs.BestAnswers.{AreBest, IsBestAnswer, IsUnswept, gains_text}
 use Rattle.boc_run_commands.specs.Commands.{RefusesRecord}
+use Rattle.boc_run_commands.specs.Measured.{AreMeasured}
 use Rattle.boc_run_commands.specs.NamedRuns.{AreRenamed, IsRecordNumbered, RefusesRenamed}
 use Rattle.boc_plan_commands.specs.ProgramInputs.{IsProgramRun}
 
@@ -94,14 +95,18 @@ pub record IsNamedSweep (asked : AskedSweep) (file input output : List ℕ) : Ty
   pub recorded : Recorded
   pub names : Names
   pub named : AreRenamed (λ base. IsRecordNumbered input recorded base) file names
-  pub told : IsSwept recorded.rows names asked true output
+  pub measured : List Row
+  pub measured_are : AreMeasured asked.typical names.defs.items recorded.rows measured
+  pub told : IsSwept measured names asked true output
 
 -- the input spells a program, and the output tells of a sweep over the rows of its run
 pub record IsProgramSweep (asked : AskedSweep) (supplied : Supplied) (file input output : List ℕ) : Type 0 where
   pub recorded : Recorded
   pub names : Names
   pub run : IsProgramRun asked.schedule supplied file input recorded names
-  pub told : IsSwept recorded.rows names asked (are_named asked supplied) output
+  pub measured : List Row
+  pub measured_are : AreMeasured asked.typical names.defs.items recorded.rows measured
+  pub told : IsSwept measured names asked (are_named asked supplied) output
 
 -- the output tells all ends of a sweep over the rows of a record by their numbers alone, or the best of them
 abbrev pub IsNumberedSweep : AskedSweep → Option ℕ → List ℕ → List ℕ → Type 0

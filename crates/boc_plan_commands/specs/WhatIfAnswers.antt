@@ -23,6 +23,7 @@ use Rattle.boc_run_commands.specs.declared.fault.InputFault.TheVariants as input
 use Rattle.boc_run_commands.specs.Answers.{IsReport}
 use Rattle.boc_words.specs.declared.schedule.Schedule.{Schedule}
 use Rattle.boc_plan_commands.specs.declared.program_input.Supplied.{Supplied}
+use Rattle.boc_run_commands.specs.Measured.{AreMeasured}
 use Rattle.boc_run_commands.specs.NamedRuns.{IsNamedRecord, RefusesNamedRecord}
 use Rattle.boc_plan_commands.specs.ProgramInputs.{IsOfProgramRun, IsProgramRun, supplied_to}
 use Rattle.boc_plan_commands.specs.Asked.{AreAskedEarly, AreAskedFor, IsOfCowns, IsOfEarly, IsOfEdits, all_cowns, cowns_of}
@@ -75,12 +76,19 @@ pub record IsShortAnswer (names : Names) (changes : AskedChanges) (sharing : Sha
   pub changed : AreChangedSo names changes rows after
   pub told : IsShortReport names sharing workers rows after text
 
--- the output tells of the rows after these changes
+-- the output tells of rows, with the ticks that they have, after these changes
 pub record IsWhatIfReport (names : Names) (changes : AskedChanges) (sharing : Sharing) (plans : AskedPlans) (short : Bool)
     (rows : List Row) (output : List ℕ) : Type 0 where
   pub after : List Row
   pub changed : AreChangedSo names changes rows after
   pub told : IsReportAfter short names sharing plans rows after output
+
+-- the output tells of the rows of a run, with their own ticks or typical ones, after these changes
+pub record IsMeasuredReport (names : Names) (changes : AskedChanges) (sharing : Sharing) (plans : AskedPlans) (short : Bool)
+    (rows : List Row) (output : List ℕ) : Type 0 where
+  pub measured : List Row
+  pub measured_are : AreMeasured changes.typical names.defs.items rows measured
+  pub told : IsWhatIfReport names changes sharing plans short measured output
 
 -- ---- what is refused
 
@@ -101,11 +109,23 @@ abbrev pub IsOfAsked : Names → AskedChanges → List Row → Fault → Type 0
 IsOfAsked names changes rows fault =
     IsOfCowns names changes.cowns.items fault ⊎ (IsOfEarlyAfter names changes fault ⊎ IsOfEditsAfter names changes rows fault)
 
+-- a fault of what is asked for of the rows of a run, with their own ticks or typical ones
+pub record IsOfMeasured (names : Names) (changes : AskedChanges) (rows : List Row) (fault : Fault) : Type 0 where
+  pub measured : List Row
+  pub measured_are : AreMeasured changes.typical names.defs.items rows measured
+  pub unfit : IsOfAsked names changes measured fault
+
 -- what is asked for is refused; want of memory and of a device are no refusal
 abbrev pub RefusesAsked : {A : Type 0} → Names → AskedChanges → List Row → Result A Fault → Type 0
 RefusesAsked names changes rows (Ok done) = Unit {0}
 RefusesAsked names changes rows (Err (faults.Means w)) = Unit {0}
 RefusesAsked names changes rows (Err fault) = IsOfAsked names changes rows fault
+
+-- and so it is of the rows of a run
+abbrev pub RefusesMeasured : {A : Type 0} → Names → AskedChanges → List Row → Result A Fault → Type 0
+RefusesMeasured names changes rows (Ok done) = Unit {0}
+RefusesMeasured names changes rows (Err (faults.Means w)) = Unit {0}
+RefusesMeasured names changes rows (Err fault) = IsOfMeasured names changes rows fault
 
 -- ---- the command
 
@@ -116,7 +136,7 @@ pub record IsWhatIfAnswer (file : Option WhatIfFile) (bytes : List ℕ) (changes
   pub recorded : Recorded
   pub names : Names
   pub named : IsNamedRecord file bytes input recorded names
-  pub report : IsWhatIfReport names changes sharing plans short recorded.rows output
+  pub report : IsMeasuredReport names changes sharing plans short recorded.rows output
 
 -- the source told the text of a record, if it told any, and what is asked for is refused with this fault, in the names that the record has
 pub record RefusesSupposed (file : Option WhatIfFile) (bytes : List ℕ) (changes : AskedChanges) (fault : Fault)
@@ -124,7 +144,7 @@ pub record RefusesSupposed (file : Option WhatIfFile) (bytes : List ℕ) (change
   pub recorded : Recorded
   pub names : Names
   pub tells : IfSome before (λ text. IsNamedRecord file bytes text recorded names)
-  pub unfit : IsOfAsked names changes recorded.rows fault
+  pub unfit : IsOfMeasured names changes recorded.rows fault
 
 -- the record is refused, or the file beside it, and then what is asked for
 abbrev pub RefusesWhatIf : {A : Type 0} → Option WhatIfFile → List ℕ → AskedChanges → Result A Fault → Option (List ℕ) → Type 0
@@ -147,7 +167,7 @@ pub record IsProgramWhatIf (schedule : Schedule) (supplied : Supplied) (file : L
   pub recorded : Recorded
   pub names : Names
   pub run : IsProgramRun schedule supplied file input recorded names
-  pub report : IsWhatIfReport names changes sharing plans short recorded.rows output
+  pub report : IsMeasuredReport names changes sharing plans short recorded.rows output
 
 -- the output tells of the rows of a record after these changes, or of those of the run of a program
 abbrev pub AnswersWhatIf : Schedule → Option WhatIfFile → List ℕ → AskedChanges → Sharing → AskedPlans → Bool → List ℕ → List ℕ → Type 0
@@ -161,7 +181,7 @@ pub record IsOfSupposed (schedule : Schedule) (supplied : Supplied) (file : List
   pub recorded : Recorded
   pub names : Names
   pub run : IsProgramRun schedule supplied file text recorded names
-  pub unfit : IsOfAsked names changes recorded.rows fault
+  pub unfit : IsOfMeasured names changes recorded.rows fault
 
 -- a fault of a program text, of its run, or of the file beside it, and then of what is asked for
 abbrev pub IsOfWhatIf : Type 0 → Schedule → Supplied → List ℕ → AskedChanges → List ℕ → Fault → Type 0

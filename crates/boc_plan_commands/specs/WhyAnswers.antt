@@ -19,6 +19,7 @@ use Rattle.boc_advice_report.specs.StepsTexts.{IsStepsText}
 use Rattle.boc_advice_report.specs.WhyTold.{IsWhyText}
 use Rattle.boc_words.specs.declared.asked.AskedWhy.{AskedWhy}
 use Rattle.boc_words.specs.declared.asked.RunFile.{RunFile}
+use Rattle.boc_run_commands.specs.Measured.{AreMeasured, times_measured}
 use Rattle.boc_run_commands.specs.NamedRuns.{HasTimes, IsNamedRun}
 use Rattle.boc_plan_commands.specs.OrderAnswers.{IsOtherOrder}
 use Rattle.boc_run_commands.specs.TimedAnswers.{end_of_times}
@@ -75,11 +76,14 @@ pub record IsTold (rows : List Row) (names : Names) (asked : AskedWhy) (times : 
   pub told : IsToldOf (asked_of rows names asked.sharing asked.workers) names asked.all asked.then (option_map end_of_times times) text
 
 -- The rows are those of the run that the input tells of, by the schedule that was asked for or with the file beside it, and the output tells why they take as
--- long as they do. Where ticks are time for a program that was run, it is known when its rows ran, which is a schedule that ends in time.
+-- long as they do, or would with typical ticks. Where ticks are time for a program that was run, it is known when its rows ran, which is a schedule that ends
+-- in time.
 pub record IsWhyAnswer (asked : AskedWhy) (file : Option RunFile) (bytes input output : List ℕ) : Type 0 where
   pub recorded : Recorded
   pub names : Names
   pub named : IsNamedRun asked.schedule file bytes input recorded names
   pub times : Option TimedRows
   pub times_are : HasTimes asked.schedule file input recorded.rows times
-  pub told : IsTold recorded.rows names asked times output
+  pub measured : List Row
+  pub measured_are : AreMeasured asked.typical names.defs.items recorded.rows measured
+  pub told : IsTold measured names asked (times_measured asked.typical times) output

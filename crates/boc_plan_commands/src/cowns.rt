@@ -9,6 +9,7 @@ ghost use Rattle.boc_plan_commands.specs.CownsAnswers.{AreJudged, AreTold, IsJud
 ghost use Rattle.boc_plan_commands.specs.Tells.{TellsCowns};
 ghost use Rattle.boc_run_commands.specs.NamedRuns.{AreFew, IsOfNamedRun, IsShort, RefusesNamedRun};
 
+use crate::notes::{are_looked_at, notes_of};
 use crate::order::other_order;
 use boc_advice_report::{ForWorkers, OtherOrder};
 use boc_cowns::{HotCowns, hot_cowns};
@@ -18,8 +19,9 @@ use boc_program::count::Workers;
 use boc_progress::Progress;
 use boc_remedies::{Question, Together, cowns_together};
 use boc_run_commands::Fault;
+use boc_run_commands::measured::{measured_run, workers_measured};
 use boc_run_commands::named_run::{NamedRun, Origin, named_run, taken};
-use boc_run_commands::notes::{Told, notes_beside};
+use boc_run_commands::notes::Told;
 use boc_run_commands::timed_note::other_run;
 use boc_text::{Sink, Source, put_out};
 use boc_whatif::WhatIf;
@@ -31,7 +33,7 @@ use std::thread::Threads;
 
 /// Reads a program, which it runs, or the text of a record, as its first word says, and writes how long each cown of the run is held, waited for and handed
 /// on, and the span without it, those first that are held longest. Below that is whether the spawns hold the run back, or the load of a cown, or order
-/// does. `bytes`, the notes, with the one on the timed run, and `progress` are as for `why`.
+/// does. `bytes`, the notes, with those on the timed run and on rows that take very long, and `progress` are as for `why`.
 ///
 /// A program is refused as by `run`, a record as by `profile`, and a file as its kind is. Nothing is written unless the whole answer is ready. After a failing
 /// write a beginning of it went out. Plans are made in threads. The text of a record is taken into memory as a whole.
@@ -81,15 +83,26 @@ fn cowns_told<R: Threads + Wait + Sync, G: Gate>(
         (λ told. TellsCowns asked file.now bytes.items told.notes.items text.items told.text.items × IsShort text.items)
         (IsOfNamedRun G.always_on asked.schedule file.now bytes.items text.items) }
 {
-    let other = other_run(alloc, asked.schedule, asked.workers, file, &text)?;
+    let workers = workers_measured(asked.typical, asked.workers);
+    let other = other_run(alloc, asked.schedule, workers, file, &text)?;
+    let looked = are_looked_at(asked.typical, &text);
     let origin = Origin {
         schedule: asked.schedule,
         file,
         bytes,
     };
     let run = named_run(rt, alloc, text, origin, gate, progress)?;
-    let notes = notes_beside(alloc, asked.quiet, asked.sharing, &run, &other, progress)?;
-    let text = told(rt, alloc, &run, asked, progress)?;
+    let notes = notes_of(
+        alloc,
+        asked.quiet,
+        asked.sharing,
+        looked,
+        &run,
+        &other,
+        progress,
+    )?;
+    let measured = measured_run(alloc, asked.typical, run)?;
+    let text = told(rt, alloc, &measured, asked, progress)?;
     Ok(Told { text, notes })
 }
 

@@ -13,6 +13,7 @@ use boc_progress::Progress;
 use boc_record::read_rows;
 use boc_report::curve_text;
 use boc_run_commands::Fault;
+use boc_run_commands::measured::measured_run;
 use boc_run_commands::named_run::NamedRun;
 use boc_runs::rows::Rows;
 use boc_text::{Sink, Source, put_out};
@@ -61,7 +62,7 @@ pub fn curve_cmd<R: Threads + Wait + Sync, G: Gate, S: TakesBack, W: Sink>(
         bytes,
     };
     let run = run_of_program(rt, alloc, text, setting, gate, progress)?;
-    let NamedRun { rows, .. } = run;
+    let NamedRun { rows, .. } = measured_run(alloc, asked.typical, run)?;
     curve_of(rt, alloc, asked.most, asked.sharing, rows, sink)
 }
 

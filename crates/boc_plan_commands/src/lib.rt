@@ -5,6 +5,7 @@ mod best;
 mod cowns;
 mod curve;
 mod meant;
+mod notes;
 pub mod order;
 mod profile;
 pub mod program_input;

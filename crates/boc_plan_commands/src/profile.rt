@@ -11,6 +11,7 @@ use boc_input::{TakesBack, program_taken};
 use boc_progress::Progress;
 use boc_record::read_rows;
 use boc_run_commands::Fault;
+use boc_run_commands::measured::measured_run;
 use boc_run_commands::named_run::NamedRun;
 use boc_run_commands::notes::notes_on;
 use boc_run_commands::report::report_on;
@@ -60,9 +61,9 @@ pub fn profile_cmd<R: Threads + Wait + Sync, G: Gate, S: TakesBack, W: Sink>(
         bytes,
     };
     let run = run_of_program(rt, alloc, text, setting, gate, progress)?;
-    let NamedRun { rows, names, .. } = run;
-    let noted = notes_on(alloc, asked.quiet, &rows, &names.rows)?;
+    let noted = notes_on(alloc, asked.quiet, &run.rows, &run.names.rows)?;
     *notes = noted;
+    let NamedRun { rows, .. } = measured_run(alloc, asked.typical, run)?;
     report_on(alloc, asked.plans, rows, asked.sharing, sink)
 }
 

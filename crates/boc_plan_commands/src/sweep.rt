@@ -20,6 +20,7 @@ use boc_progress::Progress;
 use boc_record::read_counted;
 use boc_report::write_sweep;
 use boc_run_commands::Fault;
+use boc_run_commands::measured::measured_run;
 use boc_run_commands::named_run::renamed_record;
 use boc_text::{Sink, Source};
 use boc_whatif::WhatIf;
@@ -70,7 +71,8 @@ pub fn sweep_cmd<R: Threads + Wait + Sync, G: Gate, S: TakesBack, W: Sink>(
         bytes,
     };
     let run = run_of_program(rt, alloc, text, setting, gate, progress)?;
-    swept_run(rt, alloc, asked, named, run, progress, sink)
+    let measured = measured_run(alloc, asked.typical, run)?;
+    swept_run(rt, alloc, asked, named, measured, progress, sink)
 }
 
 // Returns whether the lines of a sweep over the run of a program have what their rows or cowns are called.
@@ -144,7 +146,8 @@ fn named_sweep<R: Threads + Sync, S: Source, W: Sink>(
     ensures sink { CountsSink result (W.failures sink.old) (W.failures sink.new) }
 {
     let run = renamed_record(alloc, source, file)?;
-    swept_run(rt, alloc, asked, true, run, progress, sink)
+    let measured = measured_run(alloc, asked.typical, run)?;
+    swept_run(rt, alloc, asked, true, measured, progress, sink)
 }
 
 // Reads the text of a record, and writes all lines of a sweep over its rows, by their numbers alone.

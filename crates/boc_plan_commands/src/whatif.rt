@@ -14,7 +14,7 @@ ghost use Rattle.boc_run_commands.specs.NamedRuns.{AreFew};
 ghost use Rattle.boc_plan_commands.specs.ProgramInputs.{RefusesEither, supplied_to};
 ghost use Rattle.boc_plan_commands.specs.WhatIfAnswers.{AnswersWhatIf, AreChangedSo, IsAskedEnd, IsOfAsked, IsOfWhatIf, IsOutcome, IsShortAnswer};
 ghost use Rattle.boc_plan_commands.specs.WhatIfAnswers.{IsWhatIfAnswer};
-ghost use Rattle.boc_plan_commands.specs.WhatIfAnswers.{IsWhatIfReport, RefusesAsked, RefusesWhatIf};
+ghost use Rattle.boc_plan_commands.specs.WhatIfAnswers.{IsMeasuredReport, IsWhatIfReport, RefusesAsked, RefusesMeasured, RefusesWhatIf};
 
 use crate::meant::{cowns_meant, edits_meant, marks_of, owner_of};
 use crate::program_input::{Setting, run_of_program, supplied_to};
@@ -24,6 +24,7 @@ use boc_plans::sharing::Sharing;
 use boc_program::count::Workers;
 use boc_progress::Progress;
 use boc_record::read_counted;
+use boc_run_commands::measured::measured_run;
 use boc_run_commands::named_run::{NamedRun, named_record};
 use boc_run_commands::report::report_after;
 use boc_run_commands::{Fault, InputFault};
@@ -52,11 +53,14 @@ pub struct Supposed<'a> {
 }
 
 impl Supposed<'_> {
-    // No row is meant or told by a name.
+    // No row is meant or told by a name, and none takes the ticks that are typical of its name.
     fn names_no_row(&self) -> bool
         ensures { result ≡ names_no_row self.now.short self.now.changes.now }
     {
-        !self.short && self.changes.early.is_empty() && are_of_rows(&self.changes.edits)
+        !self.short
+            && !self.changes.typical
+            && self.changes.early.is_empty()
+            && are_of_rows(&self.changes.edits)
     }
 }
 
@@ -107,6 +111,26 @@ pub fn whatif_report<W: Sink>(
         let after = changed(alloc, &names, asked, rows)?;
         report_after(alloc, asked.plans, after, sink)
     }
+}
+
+// Writes this report on the rows of a run with their own ticks, or, where that is requested, with the median ticks of their defs.
+fn measured_report<W: Sink>(
+    alloc: Global,
+    asked: &Supposed<'_>,
+    run: NamedRun,
+    sink: &mut W,
+) -> Result<(), Fault>
+    requires few { AreFew run.rows run.names }
+    requires sink { W.failures sink.old < u64.MAX }
+    ensures written { Leaves
+        (IsMeasuredReport run.names asked.now.changes.now asked.now.sharing asked.now.plans asked.now.short run.rows)
+        result (W.written sink.old) (W.written sink.new) }
+    ensures refused { RefusesMeasured run.names asked.now.changes.now run.rows result }
+    ensures source { (count : ℕ) → CountsSource result count count }
+    ensures sink { CountsSink result (W.failures sink.old) (W.failures sink.new) }
+{
+    let measured = measured_run(alloc, asked.changes.typical, run)?;
+    whatif_report(alloc, asked, measured, sink)
 }
 
 // Returns what is reported in short of rows before and after what is supposed.
@@ -291,8 +315,9 @@ fn numbered_whatif<S: Source, W: Sink>(
 }
 
 /// Reads a program, which it runs, or the text of a record, as the first token says, and writes the report on the rows of the run after what is supposed of
-/// them. First cowns are left out, so that they impose no order; then the rows of some defs spawn early; then the rows change, edit by edit. The report is that
-/// of the command `profile`; or, in short, it says what the rows take before and after. Names are those of the program, or for a record those that come from a
+/// them. Where that is requested, each row takes the median ticks of its def, as if the run had been so. Then cowns are left out, so that they impose no order;
+/// then the rows of some defs spawn early; then the rows change, edit by edit. The report is that of the command `profile`; or, in short, it says what the
+/// rows take before and after. Names are those of the program, or for a record those that come from a
 /// file given with it, if there is one, and else numbers.
 ///
 /// A program is refused as by `run`; the text of a record at its first faulty line, and only where it is no record's; and a file as its kind is. Of what is
@@ -332,7 +357,7 @@ pub fn whatif_cmd<R: Threads + Wait + Sync, G: Gate, S: TakesBack, W: Sink>(
         bytes,
     };
     let run = run_of_program(rt, alloc, text, setting, gate, progress)?;
-    whatif_report(alloc, asked, run, sink)
+    measured_report(alloc, asked, run, sink)
 }
 
 // Does the same with the text of a record.
@@ -357,5 +382,5 @@ fn record_whatif<S: Source, W: Sink>(
         return numbered_whatif(alloc, asked, source, sink);
     }
     let run = named_record(alloc, source, file, bytes, progress)?;
-    whatif_report(alloc, asked, run, sink)
+    measured_report(alloc, asked, run, sink)
 }

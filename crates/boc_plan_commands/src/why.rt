@@ -5,12 +5,14 @@ ghost use Rattle.std.specs.Option.{option_map};
 ghost use Rattle.boc_program.specs.declared.limits.TheConstants.{MOST_COWNS, MOST_ROWS};
 ghost use Rattle.boc_remedies.specs.Questions.{asked as asked_by};
 ghost use Rattle.boc_run_commands.specs.Commands.{AnswersInput, Leaves, CountsSource, CountsSink};
+ghost use Rattle.boc_run_commands.specs.Measured.{workers_measured};
 ghost use Rattle.boc_run_commands.specs.NamedRuns.{AreFew, IsOfNamedRun, IsShort, RefusesNamedRun};
 ghost use Rattle.boc_plan_commands.specs.Tells.{TellsWhy};
 ghost use Rattle.boc_run_commands.specs.TimedAnswers.{end_of_times};
 ghost use Rattle.boc_run_commands.specs.TimedNotes.{IsOther, workers_compared};
 ghost use Rattle.boc_plan_commands.specs.WhyAnswers.{AreStepsTold, IsTold, IsWhyTold};
 
+use crate::notes::{are_looked_at, notes_of};
 use crate::order::other_order;
 use boc_advice_report::{StepsTold, WhyTold, steps_text, why_text};
 use boc_busy::TimedRows;
@@ -20,8 +22,9 @@ use boc_program::count::Workers;
 use boc_progress::Progress;
 use boc_remedies::{Question, advise, ends_of, steps_of};
 use boc_run_commands::Fault;
+use boc_run_commands::measured::{measured_run, workers_measured};
 use boc_run_commands::named_run::{NamedRun, Origin, named_run, taken};
-use boc_run_commands::notes::{Told, notes_beside};
+use boc_run_commands::notes::Told;
 use boc_run_commands::timed_note::{Other, other_run};
 use boc_text::{Sink, Source, put_out};
 use boc_why_report::TimedEnd;
@@ -36,7 +39,8 @@ use std::thread::Threads;
 /// ends sooner, if one was found. For a number of workers, if one is given, it judges by the greedy plan. Where that is requested, it writes one change after
 /// another instead. For a program whose workers take ticks as time, the first line has the end of the run. `bytes` are those of the file given with the
 /// input, if there is one. The notes replace those in `notes`. If one thread runs a program, with no record of its run, and plans are for some workers, a last
-/// note has the span of the timed run by as many workers, at most 16, where that is another one.
+/// note has the span of the timed run by as many workers, at most 16, where that is another one. The last note on a record says if rows that take very long
+/// take more than a tenth of all ticks, unless each takes typical ticks.
 ///
 /// A program is refused as by `run`, a record as by `profile`, and a file as its kind is. Nothing is written unless the whole answer is ready. After a failing
 /// write a beginning of it went out. Plans are made in threads. The text of a record is taken into memory as a whole. `progress` receives how far
@@ -88,14 +92,24 @@ fn why_told<R: Threads + Wait + Sync, G: Gate>(
         (IsOfNamedRun G.always_on asked.schedule file.now bytes.items text.items) }
 {
     let other = other_asked(alloc, &asked, file, &text)?;
+    let looked = are_looked_at(asked.typical, &text);
     let origin = Origin {
         schedule: asked.schedule,
         file,
         bytes,
     };
     let run = named_run(rt, alloc, text, origin, gate, progress)?;
-    let notes = notes_beside(alloc, asked.quiet, asked.sharing, &run, &other, progress)?;
-    let text = told(rt, alloc, &run, asked)?;
+    let notes = notes_of(
+        alloc,
+        asked.quiet,
+        asked.sharing,
+        looked,
+        &run,
+        &other,
+        progress,
+    )?;
+    let measured = measured_run(alloc, asked.typical, run)?;
+    let text = told(rt, alloc, &measured, asked)?;
     Ok(Told { text, notes })
 }
 
@@ -106,9 +120,11 @@ fn other_asked(
     file: &Option<RunFile>,
     text: &[u8],
 ) -> Result<Option<Other>, AllocError>
-    ensures { IfOk result (IsOther text.now (workers_compared asked.now.schedule asked.now.workers file.now)) }
+    ensures { IfOk result
+        (IsOther text.now (workers_compared asked.now.schedule (workers_measured asked.now.typical asked.now.workers) file.now)) }
 {
-    other_run(alloc, asked.schedule, asked.workers, file, text)
+    let workers = workers_measured(asked.typical, asked.workers);
+    other_run(alloc, asked.schedule, workers, file, text)
 }
 
 // Returns what is reported of why the rows of a run take as long as they do, in their names; or, where that is requested, of one change after another.

@@ -12,3 +12,4 @@ pub mod TakenRuns
 pub mod GivenRuns
 pub mod examples
 pub mod ToldNames
+pub mod MeasuredRuns

@@ -10,3 +10,4 @@ pub mod OutcomesAnswers
 pub mod Beside
 pub mod Schedules
 pub mod Notes
+pub mod Measured

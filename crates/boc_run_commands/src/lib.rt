@@ -5,6 +5,7 @@ mod beside;
 mod check;
 mod check_against;
 mod fault;
+pub mod measured;
 pub mod named_run;
 pub mod notes;
 mod outcomes;

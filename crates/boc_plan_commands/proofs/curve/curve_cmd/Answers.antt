@@ -28,8 +28,8 @@ pub returns-clause-written : goal.returns-clause-written
 returns-clause-written g c =
     leaves_program _ _ c.curve_of.result _ _ _ _ c.in-Some.text.items
     (some_taken c.in_ok-found.found c.in-Some.text _ _ c.in-Some.is c.in_ok-found.ensures.taken)
-    c.in_ok-run.ensures.1 (λ output told. inr (program_curve c.args.asked c.args.supplied c.args.bytes.items c.in-Some.text.items c.in_ok-run.run' output
-    c.in_ok-run.ensures.0 told)) c.curve_of.ensures.written
+    c.in_ok-run.ensures.1 (λ output told. inr (program_curve c.args.asked c.args.supplied c.args.bytes.items c.in-Some.text.items c.in_ok-run.run' _ output
+    c.in_ok-run.ensures.0 c.in_ok-rows.ensures told)) c.curve_of.ensures.written
 
 pub returns-clause-refused : goal.returns-clause-refused
 returns-clause-refused g c =

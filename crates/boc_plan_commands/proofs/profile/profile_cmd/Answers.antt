@@ -32,9 +32,9 @@ returns-clause-written g c =
     leaves_program _ _ c.report_on.result _ _ _ _ c.in-Some.text.items
     (some_taken c.in_ok-found.found c.in-Some.text _ _ c.in-Some.is c.in_ok-found.ensures.taken)
     c.in_ok-run.ensures.1 (λ output told. inr (program_profile c.args.asked c.args.supplied c.args.bytes.items c.in_ok-noted.noted.items
-    c.in-Some.text.items c.in_ok-run.run' output c.in_ok-run.ensures.0
+    c.in-Some.text.items c.in_ok-run.run' _ output c.in_ok-run.ensures.0
     (subst (λ (called : List (Vec ℕ Global)). AreWanted c.args.asked.quiet (λ told'. told' ≡ notes_of_rows (texts_of called) c.in_ok-run.run'.rows)
-    c.in_ok-noted.noted.items) c.deref.ensures.value c.in_ok-noted.ensures) told)) c.report_on.ensures.written
+    c.in_ok-noted.noted.items) c.deref.ensures.value c.in_ok-noted.ensures) c.in_ok-rows.ensures told)) c.report_on.ensures.written
 
 pub returns-clause-refused : goal.returns-clause-refused
 returns-clause-refused g c =

@@ -7,7 +7,8 @@ use Rattle.boc_plan_commands.proofs.sweep.named_sweep.Goals as goal
 
 pub returns-clause-written : goal.returns-clause-written
 returns-clause-written g c =
-    sweep_named c.args.asked c.args.file.now c.in_ok-run.run' c.swept_run.result _ _ _ _ c.in_ok-run.ensures.read c.swept_run.ensures.written
+    sweep_named c.args.asked c.args.file.now c.in_ok-run.run' c.in_ok-measured.measured c.swept_run.result _ _ _ _ c.in_ok-run.ensures.read
+    c.in_ok-measured.ensures c.swept_run.ensures.written
 
 pub returns-clause-refused : goal.returns-clause-refused
 returns-clause-refused g c =

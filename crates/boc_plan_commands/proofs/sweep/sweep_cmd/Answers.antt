@@ -33,7 +33,8 @@ returns-clause-written g c =
     leaves_program _ _ c.swept_run.result _ _ _ _ c.in-Some.text.items
     (some_taken c.in_ok-found.found c.in-Some.text _ _ c.in-Some.is c.in_ok-found.ensures.taken)
     c.in_ok-run.ensures.1 (λ output told. inr (program_sweep c.args.asked c.args.supplied c.args.bytes.items c.in-Some.text.items c.in_ok-run.run'
-    c.are_named-named.result output c.in_ok-run.ensures.0 c.are_named-named.ensures told)) c.swept_run.ensures.written
+    c.in_ok-measured.measured c.are_named-named.result output c.in_ok-run.ensures.0 c.in_ok-measured.ensures c.are_named-named.ensures told))
+    c.swept_run.ensures.written
 
 pub returns-clause-refused : goal.returns-clause-refused
 returns-clause-refused g c =

@@ -9,14 +9,14 @@ returns-in_err-run-clause-refused g c =
 
 pub returns-clause-written : goal.returns-clause-written
 returns-clause-written g c =
-    written_named c.args.file.now c.args.bytes.now _ _ _ _ c.in_ok-run.run' c.whatif_report.result _ _ _ _ c.in_ok-run.ensures.read
-    c.whatif_report.ensures.written
+    written_named c.args.file.now c.args.bytes.now _ _ _ _ c.in_ok-run.run' c.measured_report.result _ _ _ _ c.in_ok-run.ensures.read
+    c.measured_report.ensures.written
 
 pub returns-clause-refused : goal.returns-clause-refused
 returns-clause-refused g c =
-    refused_asked c.args.file.now c.args.bytes.now _ c.in_ok-run.run' c.whatif_report.result _ _ c.in_ok-run.ensures.read c.whatif_report.ensures.refused
+    refused_asked c.args.file.now c.args.bytes.now _ c.in_ok-run.run' c.measured_report.result _ _ c.in_ok-run.ensures.read c.measured_report.ensures.refused
 
 pub returns-clause-source : goal.returns-clause-source
 returns-clause-source g c =
-    subst (λ (n : ℕ). CountsSource c.whatif_report.result n (g.S.Source.failures c.named_record.new.source)) c.in_ok-run.ensures.source
-    (c.whatif_report.ensures.source _)
+    subst (λ (n : ℕ). CountsSource c.measured_report.result n (g.S.Source.failures c.named_record.new.source)) c.in_ok-run.ensures.source
+    (c.measured_report.ensures.source _)

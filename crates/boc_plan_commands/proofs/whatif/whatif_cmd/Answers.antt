@@ -31,27 +31,27 @@ returns-in_default-clause-source g c =
 
 pub returns-clause-written : goal.returns-clause-written
 returns-clause-written g c =
-    leaves_program _ _ c.whatif_report.result _ _ _ _ c.in-Some.text.items
+    leaves_program _ _ c.measured_report.result _ _ _ _ c.in-Some.text.items
     (some_taken c.in_ok-found.found c.in-Some.text _ _ c.in-Some.is c.in_ok-found.ensures.taken)
     c.in_ok-run.ensures.1 (λ output told. inr (program_whatif c.args.schedule (supplied_to c.args.file.now) c.args.bytes.items _ _ _ _
     c.in-Some.text.items c.in_ok-run.run' output
     (subst (λ (s : Supplied). HasRun (IsProgramRun c.args.schedule s c.args.bytes.items c.in-Some.text.items) c.in_ok-run.run')
     c.supplied_to.ensures c.in_ok-run.ensures.0) told))
-    c.whatif_report.ensures.written
+    c.measured_report.ensures.written
 
 pub returns-clause-refused : goal.returns-clause-refused
 returns-clause-refused g c =
     whatif_refused g.G.Gate.always_on c.args.schedule (supplied_to c.args.file.now) c.args.bytes.items c.args.asked.now.changes.now
-    (λ fault bytes. RefusesWhatIf {A = Unit {0}} c.args.file.now c.args.bytes.items c.args.asked.now.changes.now (Err fault) bytes) c.whatif_report.result
+    (λ fault bytes. RefusesWhatIf {A = Unit {0}} c.args.file.now c.args.bytes.items c.args.asked.now.changes.now (Err fault) bytes) c.measured_report.result
     (g.S.Source.remaining c.args.source.now) (g.S.Source.remaining c.program_taken.new.source) c.in-Some.text.items c.in_ok-run.run'
     (some_taken c.in_ok-found.found c.in-Some.text _ _ c.in-Some.is c.in_ok-found.ensures.taken)
     (subst (λ (s : Supplied). HasRun (IsProgramRun c.args.schedule s c.args.bytes.items c.in-Some.text.items) c.in_ok-run.run')
-    c.supplied_to.ensures c.in_ok-run.ensures.0) c.whatif_report.ensures.refused
+    c.supplied_to.ensures c.in_ok-run.ensures.0) c.measured_report.ensures.refused
 
 pub returns-clause-source : goal.returns-clause-source
 returns-clause-source g c =
-    subst (λ (n : ℕ). CountsSource c.whatif_report.result n (g.S.Source.failures c.program_taken.new.source)) c.in_ok-found.ensures.failures
-    (c.whatif_report.ensures.source _)
+    subst (λ (n : ℕ). CountsSource c.measured_report.result n (g.S.Source.failures c.program_taken.new.source)) c.in_ok-found.ensures.failures
+    (c.measured_report.ensures.source _)
 
 pub returns-in_err-run-clause-refused : goal.returns-in_err-run-clause-refused
 returns-in_err-run-clause-refused g c =

@@ -1,10 +1,14 @@
-use Rattle.std.proofs.Common.{ℕ, List, subst}
+use Rattle.std.proofs.Common.{ℕ, List, Option, subst}
+use Rattle.boc_busy.specs.declared.timed.TimedRows.{TimedRows}
+use Rattle.boc_names.specs.declared.names.Names.{Names}
 use Rattle.boc_runs.specs.declared.rows.Row.{Row}
-use Rattle.boc_names.specs.Names.{texts_of}
 use Rattle.boc_run_commands.specs.NamedRuns.{HasTimes}
-use Rattle.boc_run_commands.specs.Notes.{AreWanted, AreWhyNotes}
+use Rattle.boc_run_commands.specs.Measured.{workers_measured}
+use Rattle.boc_run_commands.specs.Notes.{AreWanted}
 use Rattle.boc_run_commands.specs.TimedNotes.{IsOther, workers_compared}
 use Rattle.boc_plan_commands.specs.WhyAnswers.{IsTold}
+use Rattle.boc_plan_commands.specs.LongNotes.{AreLookedAt, ArePlanNotes}
+use Rattle.boc_run_commands.proofs.MeasuredRuns.{measured_of}
 use Rattle.boc_run_commands.proofs.Passed.{passed_on}
 use Rattle.boc_run_commands.proofs.TakenRuns.{no_memory}
 use Rattle.boc_plan_commands.proofs.why.why_told.Goals as goal
@@ -13,12 +17,16 @@ pub returns : goal.returns
 returns g c =
     let has = c.in_ok-run.ensures.0 in
     let names = c.in_ok-run.run'.names in
-    let compared = workers_compared c.args.asked.schedule c.args.asked.workers c.args.file.now in
+    let measured = c.in_ok-measured.measured in
+    let compared = workers_compared c.args.asked.schedule (workers_measured c.args.asked.typical c.args.asked.workers) c.args.file.now in
+    let typical = c.args.asked.typical in
+    let looked : AreLookedAt typical c.args.text.items c.are_looked_at-looked.result =
+    subst (λ (text : List ℕ). AreLookedAt typical text c.are_looked_at-looked.result) c.deref-2.ensures.value c.are_looked_at-looked.ensures in
     let noted =
-    subst (λ (rows : List Row). AreWanted c.args.asked.quiet (AreWhyNotes c.args.asked.sharing compared c.args.text.items (texts_of names.rows.items) rows)
+    subst (λ (rows : List Row). AreWanted c.args.asked.quiet (ArePlanNotes c.args.asked.sharing compared typical c.args.text.items names rows)
     c.in_ok-notes.notes.items) has.rows_are
-    (c.in_ok-notes.ensures c.args.text.items compared
-    (subst (λ (text : List ℕ). IsOther text compared c.in_ok-other.other) c.deref.ensures.value c.in_ok-other.ensures)) in (
+    (c.in_ok-notes.ensures c.args.text.items compared typical
+    (subst (λ (text : List ℕ). IsOther text compared c.in_ok-other.other) c.deref.ensures.value c.in_ok-other.ensures) looked) in (
       record {
         answer = record {
           recorded = has.recorded;
@@ -27,7 +35,12 @@ returns g c =
           times = c.in_ok-run.run'.times;
           times_are = subst (λ (rows : List Row). HasTimes c.args.asked.schedule c.args.file.now c.args.text.items rows c.in_ok-run.run'.times) has.rows_are
               c.in_ok-run.ensures.2;
-          told = subst (λ (rows : List Row). IsTold rows names c.args.asked c.in_ok-run.run'.times c.in_ok-text.text.items) has.rows_are c.in_ok-text.ensures;
+          measured = measured.rows;
+          measured_are = measured_of c.args.asked.typical _ c.in_ok-run.run' measured has c.in_ok-measured.ensures;
+          told = subst (λ (times : Option TimedRows). IsTold measured.rows names c.args.asked times c.in_ok-text.text.items)
+              c.in_ok-measured.ensures.times_are
+              (subst (λ (called : Names). IsTold measured.rows called c.args.asked measured.times c.in_ok-text.text.items)
+              c.in_ok-measured.ensures.names_are c.in_ok-text.ensures);
         };
         noted = noted;
       },
@@ -42,3 +55,6 @@ returns-in_err-text g c = passed_on _ _ _ _ c.from_residual-in_err-text.ensures.
 
 pub returns-in_err-other : goal.returns-in_err-other
 returns-in_err-other g c = passed_on _ _ _ _ c.from_residual.ensures.1 (no_memory _ _ _ _ _)
+
+pub returns-in_err-measured : goal.returns-in_err-measured
+returns-in_err-measured g c = passed_on _ _ _ _ c.from_residual-in_err-measured.ensures.1 (no_memory _ _ _ _ _)

@@ -1663,12 +1663,12 @@ function toldEdits({scale, early, without}) {
 // The command of `boc whatif` that makes the same edits, quoted for a shell. Numbers replace names of cowns and defs that could mean something else.
 const quoted = word => /^[\w.=\/-]+$/.test(word) ? word : `'${String(word).replace(/'/g, "'\\''")}'`;
 function inputWords() {
-  const {title, run} = told, path = name => quoted(name.replace(/^-/, './-'));
+  const {title} = told, [, typical, run] = told.run.match(/^(typical ticks(?:, |$))?(.*)$/s), path = name => quoted(name.replace(/^-/, './-'));
   const file = title === 'standard input' ? '-' : /[=@]/.test(title) ? `- < ${path(title)}` : path(title);
-  const [, how, names] = run.match(/^(.*?)(?:(?:^|, )names in (.*))?$/s), named = names === undefined ? '' : `--names ${path(names)} `;
+  const [, how, names] = run.match(/^(.*?)(?:(?:^|, )names in (.*))?$/s);
   const ran = told.source === null ? '' : how.startsWith('the run in ') ? `--record ${path(how.slice(11))}`
     : how.replace('timed on ', '--timed ').replace(/(\d+) workers?/, '-w $1').replace(/, (seed|depth)/g, ' --$1');
-  return `${ran} ${named}${file}`.trimStart();
+  return [typical ? '--typical' : '', ran, names === undefined ? '' : `--names ${path(names)}`, file].filter(Boolean).join(' ');
 }
 function commandOf({scale, early, without}) {
   const cownWord = cown => /^[-+\d]/.test(told.cowns[cown]) || cownsNamed(told.cowns[cown]).length > 1 ? cown : told.cowns[cown];
@@ -1697,7 +1697,8 @@ function tellResult() {
   const defs = sums.defs.slice(0, 3).map(sum => `${defName(sum.key)} ${percent(sum.ticks, now.span)}`).join(', ');
   const words = commandOf(edits), few = words.length < 300 ? words : [`(a command of ${num(words.length)} words)`];
   // Without a seed, threads may make another run for each call.
-  const anew = /^([2-9]|\d\d+) workers(, names in |$)/.test(told.run) ? 'Threads make a new run for it: numbers may differ, but not with --seed.' : '';
+  const anew = /^(typical ticks, )?([2-9]|\d\d+) workers(, names in |$)/.test(told.run)
+    ? 'Threads make a new run for it: numbers may differ, but not with --seed.' : '';
   const chain = `the chain then: ${defs}; heaviest link: ${sums.links[0].key} ${percent(sums.links[0].ticks, now.span)}`;
   put('result', changeOf('span', base.span, now.span), changeOf('work', base.work, now.work),
     changeOf(`${many(p, 'worker')} end${p === 1 ? 's' : ''} at`, before, after), el('span', {class: 'change'}, chain), button('undo', undo),

@@ -21,6 +21,7 @@ use Rattle.boc_run_commands.specs.declared.named_run.NamedRun.{NamedRun}
 use Rattle.boc_plan_commands.specs.CownsAnswers.{AreJudged}
 use Rattle.boc_plan_commands.specs.OrderAnswers.{IsOtherOrder}
 use Rattle.boc_plan_commands.specs.WhyAnswers.{asked_of}
+use Rattle.boc_run_commands.specs.Measured.{IsMeasured, workers_measured}
 use Rattle.boc_run_commands.specs.NamedRuns.{BeginsRecord, HasRun, HasTimes, IsNamedRun}
 use Rattle.boc_run_commands.specs.TimedNotes.{IsNoteFor, workers_compared}
 use Rattle.boc_view.specs.Lines.{AreLinesFor}
@@ -152,12 +153,16 @@ pub record HasParts (wanted : Wanted) (run : NamedRun) (material : Material) : T
   pub found : IsPart (shows_costs wanted.picture) (IsFound run.rows run.names wanted.sharing (page_workers wanted.workers)) material.found
 
 -- What the picture that is wanted is made of: the run that the input tells of, as the words say it is run, with the file beside it; what is made of its
--- rows; the text of the program, and the ticks of its lines; and the note on the span of the timed run with which it is compared, if it is.
+-- rows, as they are or with typical ticks; the text of the program, and the ticks of its lines; and the note on the span of the timed run with which it is
+-- compared, if it is.
 pub record IsMaterial (wanted : Wanted) (file input : List ℕ) (material : Material) : Type 0 where
   pub run : NamedRun
   pub has : HasRun (IsNamedRun wanted.schedule wanted.file file input) run
   pub times : HasTimes wanted.schedule wanted.file input run.rows run.times
-  pub parts : HasParts wanted run material
+  pub measured : NamedRun
+  pub is_measured : IsMeasured wanted.typical run measured
+  pub parts : HasParts wanted measured material
   pub program : IsProgramShown (shows_costs wanted.picture) input material.program.items
-  pub lines : AreLinesFor material.program.items run.rows material.found material.lines.items
-  pub note : IsNoteFor input (workers_compared wanted.schedule (workers_shown wanted) wanted.file) wanted.sharing run.rows material.note.items
+  pub lines : AreLinesFor material.program.items measured.rows material.found material.lines.items
+  pub note : IsNoteFor input (workers_compared wanted.schedule (workers_measured wanted.typical (workers_shown wanted)) wanted.file) wanted.sharing run.rows
+      material.note.items

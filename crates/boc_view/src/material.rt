@@ -20,6 +20,7 @@ use boc_pictures::Subject;
 use boc_plans::sharing::Sharing;
 use boc_program::count::Workers;
 use boc_progress::Progress;
+use boc_run_commands::measured::{measured_run, workers_measured};
 use boc_run_commands::named_run::{RECORD_WORD, named_run};
 use boc_run_commands::timed_note::{other_run, timed_note_on};
 use boc_runs::rows::Rows;
@@ -35,7 +36,7 @@ pub(crate) struct Material {
     pub subject: Subject,
     /// The greedy plan, where one is requested.
     pub greedy: Option<Greedy>,
-    /// When the rows of a timed run ran, and on which workers.
+    /// When the rows of a timed run ran, and on which workers, where they have their own ticks.
     pub times: Option<TimedRows>,
     /// When the greedy plans for 1, 2, 3 and more workers end.
     pub points: Option<Vec<CurvePoint>>,
@@ -49,8 +50,9 @@ pub(crate) struct Material {
     pub note: Vec<u8>,
 }
 
-/// Returns what the picture that is wanted is made of: the run that a text reports on, which is that of a program or of a record, with the bytes of the file
-/// given with it, if there is one; and what its rows take. A refusal is that of `named_run`, or memory was refused.
+/// Returns what the picture that is wanted is made of: the run that a text reports on, and what its rows take, with their own ticks or typical ones. The text
+/// is that of a program or of a record, and the bytes are those of the file given with it, if there is one. A refusal is that of `named_run`, or memory was
+/// refused.
 #[tactic(auto, using(crate::proofs::Refused::memory_wanting))]
 pub(crate) fn material_of<R: Threads + Wait + Sync, G: Gate>(
     rt: &R,
@@ -66,7 +68,7 @@ pub(crate) fn material_of<R: Threads + Wait + Sync, G: Gate>(
         (IsOfNamedRun G.always_on wanted.now.schedule wanted.now.file beside.items text.items) }
 {
     let program = program_shown(alloc, wanted.picture, &text)?;
-    let workers = wanted.workers_shown();
+    let workers = workers_measured(wanted.typical, wanted.workers_shown());
     let other = other_run(alloc, wanted.schedule, workers, &wanted.file, &text)?;
     let origin = Origin {
         schedule: wanted.schedule,
@@ -75,7 +77,8 @@ pub(crate) fn material_of<R: Threads + Wait + Sync, G: Gate>(
     };
     let run = named_run(rt, alloc, text, origin, gate, progress)?;
     let note = timed_note_on(alloc, &other, wanted.sharing, &run.rows, progress)?;
-    let material = parts_of(rt, alloc, wanted, run, program, note, progress)?;
+    let measured = measured_run(alloc, wanted.typical, run)?;
+    let material = parts_of(rt, alloc, wanted, measured, program, note, progress)?;
     Ok(material)
 }
 

@@ -19,6 +19,9 @@ const COLUMNS: usize = 100;
 // What is before a note on a run, where it is printed.
 const NOTE: &[u8] = b"boc: note: ";
 
+// What is said of rows with typical ticks. The page's script looks for it.
+const TYPICAL: &[u8] = b"typical ticks";
+
 /// Returns the page of a run.
 pub(crate) fn page_of(
     alloc: Global,
@@ -165,8 +168,22 @@ pub(crate) fn title_of(wanted: &Wanted) -> &[u8] {
     }
 }
 
-/// Returns how the program was run; nothing where one thread ran it.
+/// Returns whether ticks are typical ones, and how the program was run; nothing of that where one thread ran it.
 pub(crate) fn run_text(alloc: Global, wanted: &Wanted) -> Result<Vec<u8>, AllocError> {
+    let ran = ran_text(alloc, wanted)?;
+    if !wanted.typical {
+        return Ok(ran);
+    }
+    let mut text = Vec::from_slice(alloc, TYPICAL)?;
+    if !ran.is_empty() {
+        text.extend_from_slice(b", ")?;
+        text.extend_from_slice(&ran)?;
+    }
+    Ok(text)
+}
+
+// Returns how the program was run; nothing where one thread ran it.
+fn ran_text(alloc: Global, wanted: &Wanted) -> Result<Vec<u8>, AllocError> {
     let mut text = Vec::new(alloc);
     match &wanted.file {
         Some(RunFile::Record(path)) => put_file(&mut text, b"the run in ", path.as_str())?,

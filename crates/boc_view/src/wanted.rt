@@ -81,6 +81,8 @@ pub(crate) struct Wanted {
     /// For how many workers there is a greedy plan.
     pub workers: Option<Workers>,
     pub sharing: Sharing,
+    /// Whether each row has the ticks that are typical of its def.
+    pub typical: bool,
     /// The path of the file that the input is in, where it isn't standard input.
     pub input: Option<String>,
     /// The file given with the input.

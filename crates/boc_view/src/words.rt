@@ -40,6 +40,8 @@ With --timed, text, plan, page and trace add which worker runs what, and when;
 `text --curve` doesn't. If --p shows a plan, without -w above 1, --seed, --timed
 and --record, a note on standard error says if the timed run on P workers, at
 most 16, has another span.
+With --typical each row has the typical ticks of its def, as in boc help why. As
+these rows never ran, nothing is shown or noted of a timed run.
 
 Exit statuses, as those of boc:
   0  Success
@@ -220,6 +222,11 @@ fn with_common<'a>(alloc: Global, command: Command<'a>) -> Result<Command<'a>, A
             "shared-reads",
             "Plan as if rows that only read a cown shared it",
         ))?
+        .arg(flag(
+            alloc,
+            "typical",
+            "Give each row the median ticks of its def",
+        ))?
         .arg(file(
             alloc,
             "record",
@@ -296,6 +303,7 @@ fn asked_of(alloc: Global, matches: &ArgMatches) -> Result<Asked, Fault> {
         } else {
             Sharing::Exclusive
         },
+        typical: is_set(matches, "typical"),
         file,
         input: input_at(alloc, matches)?,
         width: number_at(matches, "width"),

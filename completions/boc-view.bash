@@ -5,11 +5,11 @@
 _boc_view_options() {
     case $1 in
     '') echo -h --help -V --version ;;
-    text) echo -h --help --cowns --curve --width -w --workers --seed --depth --timed -p --p --shared-reads --record --names ;;
-    plan) echo -h --help --cowns -w --workers --seed --depth --timed -p --p --shared-reads --record --names ;;
-    curve) echo -h --help -w --workers --seed --depth --timed -p --p --shared-reads --record --names ;;
-    page) echo -h --help -w --workers --seed --depth --timed -p --p --shared-reads --record --names ;;
-    trace) echo -h --help -w --workers --seed --depth --timed -p --p --shared-reads --record --names ;;
+    text) echo -h --help --cowns --curve --width -w --workers --seed --depth --timed -p --p --shared-reads --typical --record --names ;;
+    plan) echo -h --help --cowns -w --workers --seed --depth --timed -p --p --shared-reads --typical --record --names ;;
+    curve) echo -h --help -w --workers --seed --depth --timed -p --p --shared-reads --typical --record --names ;;
+    page) echo -h --help -w --workers --seed --depth --timed -p --p --shared-reads --typical --record --names ;;
+    trace) echo -h --help -w --workers --seed --depth --timed -p --p --shared-reads --typical --record --names ;;
     esac
 }
 

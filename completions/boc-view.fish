@@ -42,5 +42,6 @@ complete -c boc-view -n '__boc_view_is text plan curve page trace' -l depth -x -
 complete -c boc-view -n '__boc_view_is text plan curve page trace' -l timed -d 'Simulate workers by ticks: -w, else P up to 16, else 16'
 complete -c boc-view -n '__boc_view_is text plan curve page trace' -s p -l p -x -d 'Show greedy plans for P workers, or up to P, 1 to 64'
 complete -c boc-view -n '__boc_view_is text plan curve page trace' -l shared-reads -d 'Plan as if rows that only read a cown shared it'
+complete -c boc-view -n '__boc_view_is text plan curve page trace' -l typical -d 'Give each row the median ticks of its def'
 complete -c boc-view -n '__boc_view_is text plan curve page trace' -l record -r -F -d 'Take the run that FILE records; run nothing'
 complete -c boc-view -n '__boc_view_is text plan curve page trace' -l names -r -F -d 'Read the names of rows and cowns from FILE'

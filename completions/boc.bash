@@ -8,13 +8,13 @@ _boc_options() {
     values) echo -h --help --record --quiet ;;
     check) echo -h --help --program ;;
     run) echo -h --help -w --workers --seed --depth --timed --quiet ;;
-    profile) echo -h --help -w --workers --seed --depth --timed --record -p --p --shared-reads --no-plan --quiet ;;
+    profile) echo -h --help -w --workers --seed --depth --timed --record -p --p --shared-reads --typical --no-plan --quiet ;;
     time) echo -h --help -w --workers --seed --depth --timed -p --p --shared-reads --no-plan --quiet ;;
-    whatif) echo -h --help --without --early -w --workers --seed --depth --timed --record --program --names -p --p --shared-reads --short --no-plan ;;
-    curve) echo -h --help -w --workers --seed --depth --timed --record -p --p --shared-reads ;;
-    sweep) echo -h --help --cowns -w --workers --seed --depth --timed --record --names -p --p --shared-reads --best --spawns ;;
-    why) echo -h --help -w --workers --seed --depth --timed --record --names -p --p --shared-reads --all --then --quiet ;;
-    cowns) echo -h --help -w --workers --seed --depth --timed --record --names -p --p --top --shared-reads --quiet ;;
+    whatif) echo -h --help --without --early -w --workers --seed --depth --timed --record --program --names -p --p --shared-reads --typical --short --no-plan ;;
+    curve) echo -h --help -w --workers --seed --depth --timed --record -p --p --shared-reads --typical ;;
+    sweep) echo -h --help --cowns -w --workers --seed --depth --timed --record --names -p --p --shared-reads --typical --best --spawns ;;
+    why) echo -h --help -w --workers --seed --depth --timed --record --names -p --p --shared-reads --typical --all --then --quiet ;;
+    cowns) echo -h --help -w --workers --seed --depth --timed --record --names -p --p --top --shared-reads --typical --quiet ;;
     outcomes) echo -h --help --runs --seed -w --workers --depth ;;
     esac
 }

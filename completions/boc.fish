@@ -51,6 +51,7 @@ complete -c boc -n '__boc_is curve' -s p -l p -x -d 'Go up to P workers, 1 to 64
 complete -c boc -n '__boc_is sweep' -s p -l p -x -d 'Print ends of greedy plans for P workers, 1 to 64'
 complete -c boc -n '__boc_is why cowns' -s p -l p -x -d 'Judge by the greedy plan for P workers, 1 to 64'
 complete -c boc -n '__boc_is profile time whatif curve sweep why cowns' -l shared-reads -d 'Plan as if rows that only read a cown shared it'
+complete -c boc -n '__boc_is profile whatif curve sweep why cowns' -l typical -d 'Give each row the median ticks of its def'
 complete -c boc -n '__boc_is profile time whatif' -l no-plan -d 'Do not print the rows of plans, nor of a timed run'
 complete -c boc -n '__boc_is whatif' -l short -d 'Print only work, span and chain, before and after'
 complete -c boc -n '__boc_is whatif' -l without -x -d 'Leave out a cown, or an array; may be given repeatedly'

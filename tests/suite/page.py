@@ -183,6 +183,16 @@ main { let n = 0; repeat 133 { work 8; when buy(n % 4, 1 + n % 5; shelf[n * 5 % 
 """
 
 
+# Deposits that take 5, 60, 7, 6 and 5 ticks, so 6 each where they take typical ones, as main does.
+UNEVEN = b"""\
+cown a = 0;
+cown b = 0;
+def deposit(n; x) { work n; x = x + n; }
+main { when deposit(3; a); when deposit(58; a); when deposit(5; b); when deposit(4; a); when deposit(3; b); }
+"""
+UNEVEN_WORK = 36
+
+
 def cases(program):
     yield "bin/page --check", fault_of_sources()
     path = command_of("chromium", "chromium", "chromium-browser", "google-chrome")
@@ -200,6 +210,7 @@ def cases(program):
             yield from opened.numbers(name, sources[name], name == "bank.boc")
         yield "names that mean something", opened.fault_of_names()
         yield "names of files", opened.fault_of_files()
+        yield "typical ticks", opened.fault_of_typical()
         yield from opened.broken([sources["bank.boc"], SHOP.replace(b"133", b"1000")])
         yield from opened.broken_looks()
         yield from opened.clicks()
@@ -377,6 +388,28 @@ class Opened:
                     fault = self.fault_of_sizes() or self.fault_of_command([[self.tab.ask("() => rows.def[1]"), [1, 2]]], [], [], 2)
                     if fault is not None:
                         return f"{name!r}: {fault}"
+        return self.fault_of_console()
+
+    def fault_of_typical(self):
+        """With typical ticks the page has these, and its commands ask for them, however the program is run."""
+        record, names = self.program.run(["run"], UNEVEN).output.decode(), "".join(f"= {row} deposit {row}\n" for row in range(1, 6))
+        ways = [([], "", ""), (["-w", "2", "--seed", "3"], "", ", 2 workers, seed 3"), (["-w", "2"], "", ", 2 workers"),
+                (["-w", "3", "--seed", "4", "--depth", "2"], "", ", 3 workers, seed 4, depth 2"), (["--timed", "-w", "2"], "", ", timed on 2 workers"),
+                (["--record", "./kept"], "", ", the run in kept"), ([], names, ", names in NAMES"),
+                (["--timed", "-w", "2"], names, ", timed on 2 workers, names in NAMES"), (["of a record"], names, ", names in NAMES")]
+        for words, named, run in ways:
+            own = words == ["of a record"]
+            with self.named_page("kept", record, named, None if own else UNEVEN.decode(), ["--typical", *([] if own else words)]):
+                told, work = self.tab.ask("() => [told.run, told.work]")
+                if (told, work) != (f"typical ticks{run}", UNEVEN_WORK):
+                    return f"{words}: its run is {told!r}, and its work {work}"
+                for scale, without in (([], []), ([[1, [1, 2]]], []), ([[1, [1, 2]]], [0])):
+                    fault = self.fault_of_command(scale, without, [], 2)
+                    if fault is not None:
+                        return f"{words} {named}: {fault}"
+                words_shown = self.tab.ask(COMMAND, [], [0], [], 2)
+                if " --typical " not in words_shown or "  " in words_shown:
+                    return f"{words}: its command is {words_shown}"
         return self.fault_of_console()
 
     @contextlib.contextmanager

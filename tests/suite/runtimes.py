@@ -334,7 +334,7 @@ def fault_of_names(program, name, record, names, told):
         return f"it names the rows {sorted(rows)}, and calls them {sorted({words[0] for words in rows.values()})}"
     if len(cowns) != int(record.split(maxsplit=3)[2]) or {cown.split("[")[0] for cown in cowns} != COWNS[name]:
         return f"it calls the cowns {cowns}"
-    answer = program.run_beside(["why", "--all"], "--names", names.encode(), record)
+    answer = program.run_beside(["why", "--all", "--quiet"], "--names", names.encode(), record)
     if answer is None or answer.status or answer.errors or answer.notes:
         return f"why answers {answer}"
     chain = chain_of(answer.output.decode())

@@ -71,7 +71,7 @@ module _ (a b : Names) (same : CallTheSame a b) where
   families_same (f ∷ families) = λ i. text_at (same.family_names i) f
       ++ flat_map (λ (g : ℕ). codes " and " ++ text_at (same.family_names i) g) families
 
-  remedy_same : (remedy : Remedy) → remedy_text a remedy ≡ remedy_text b remedy
+  pub remedy_same : (remedy : Remedy) → remedy_text a remedy ≡ remedy_text b remedy
   remedy_same (HalfCost def) = λ i. text_at (same.def_names i) def ++ codes " at 1/2"
   remedy_same (NoOrder set) = λ i. codes "without " ++ families_same set i
   remedy_same (EarlySpawns def) = λ i. codes "early spawns by " ++ text_at (same.def_names i) def

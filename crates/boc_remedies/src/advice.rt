@@ -16,7 +16,7 @@ use crate::question::Question;
 use crate::remedy::Remedy;
 use crate::steps::{ends_now, greedy_asked};
 use crate::together::{Together, all_together, best_sets};
-use crate::tried::{handed_families, tried};
+use crate::tried::{handed_families, remedies_for};
 use boc_why::{Why, why_of};
 use std::alloc::{AllocError, Global};
 use std::thread::Threads;
@@ -106,7 +106,7 @@ pub fn advice_for(
     requires few_families { All (λ f. f < MOST_COWNS) question.now.families.now }
     ensures { IfOk result (IsAdvice (asked question.now) (map known routes.now) now) }
 {
-    let tried = tried(alloc, routes, question.families)?;
+    let tried = remedies_for(alloc, routes, question.families)?;
     let candidates = candidates(rt, alloc, question, now, &tried)?;
     let handed = handed_families(alloc, routes, question.families)?;
     let together = if handed.as_slice().is_empty() {

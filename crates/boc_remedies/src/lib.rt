@@ -28,3 +28,4 @@ pub use question::Question;
 pub use remedy::Remedy;
 pub use steps::steps_of;
 pub use together::{Together, all_together, best_sets, cowns_together};
+pub use tried::remedies_for;

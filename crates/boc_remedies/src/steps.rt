@@ -13,7 +13,7 @@ use crate::ends::{Ends, all_ends, rows_after};
 use crate::greedy_why::{GreedyWhy, greedy_why_of};
 use crate::question::Question;
 use crate::remedy::Remedy;
-use crate::tried::tried;
+use crate::tried::remedies_for;
 use boc_why::{Why, why_of};
 use std::alloc::{AllocError, Global};
 use std::thread::Threads;
@@ -176,7 +176,7 @@ fn best_step(
     let why = why_of(alloc, rows, sharing, defs, families.len())?;
     let greedy = greedy_asked(alloc, question)?;
     let routes = routes_of(alloc, &why, &greedy, families)?;
-    let tried = tried(alloc, &routes, families)?;
+    let tried = remedies_for(alloc, &routes, families)?;
     let left_over = others(alloc, steps, &tried)?;
     let left = all_ends(rt, alloc, question, &left_over)?;
     let all = paired(alloc, &left_over, &left)?;

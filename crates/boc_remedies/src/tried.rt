@@ -297,7 +297,7 @@ fn push_early_spawns(tried: &mut Vec<Remedy>, defs: &[u32]) -> Result<(), AllocE
 /// Returns what is tried for some chains, in this order. First are the defs that weigh most in each at half their cost. Then come the families that any hands
 /// on, and the link sets of each, without their order. Last are earlier spawns of the defs that weigh most by their spawns in each. Each is tried once, and
 /// each cown belongs to the family at its place. `AllocError` says that memory was refused.
-pub(crate) fn tried(
+pub fn remedies_for(
     alloc: Global,
     routes: &[Route<'_>],
     families: &[u32],

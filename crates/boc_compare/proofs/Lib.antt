@@ -1,0 +1,10 @@
+pub mod ShareTables
+pub mod EachOnce
+pub mod DefTotals
+pub mod FamilyTotals
+pub mod ByName
+pub mod Sorting
+pub mod Waiting
+pub mod OneSide
+pub mod AddUp
+pub mod Turning

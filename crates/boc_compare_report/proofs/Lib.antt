@@ -1,0 +1,4 @@
+pub mod Behind
+pub mod Decided
+pub mod OneText
+pub mod Parts

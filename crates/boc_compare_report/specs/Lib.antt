@@ -1,0 +1,4 @@
+pub mod CompareTexts
+pub mod PairTexts
+pub mod Compared
+pub mod Same

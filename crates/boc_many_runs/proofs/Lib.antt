@@ -1,0 +1,15 @@
+pub mod Ranges
+pub mod Counting
+pub mod Lining
+pub mod Rounds
+pub mod Pushing
+pub mod Bringing
+pub mod Bounds
+pub mod Spreading
+pub mod AddingUp
+pub mod TellingAll
+pub mod OneOrder
+pub mod OneAnswer
+pub mod Faults
+pub mod RunKinds
+pub mod Answering

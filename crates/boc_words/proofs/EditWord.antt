@@ -17,7 +17,7 @@ use Rattle.boc_plans.specs.declared.edit.Change.TheVariants.{Ticks, Offset, Cost
 use Rattle.boc_plans.specs.Fractions.{Fraction}
 use Rattle.boc_words.specs.declared.asked.AskedEdit.{AskedEdit}
 use Rattle.boc_words.specs.declared.asked.AskedEdit.TheVariants.{Row, Def}
-use Rattle.boc_words.specs.EditWords.{HasOther, IsCostWord, IsEditWord, IsPart, IsSubject, IsWritable, IsWritableChange}
+use Rattle.boc_words.specs.EditWords.{HasOther, IsCostWord, IsEditWord, IsPart, IsWritable, IsWritableChange}
 use Rattle.boc_words.specs.EditWords.{change_word, cost_word, edit_word, equals_sign}
 
 abbrev AreDigits : List ℕ → Type 0

@@ -19,7 +19,7 @@ use Rattle.clap.specs.declared.parser.matches.ValueSource.{ValueSource}
 use Rattle.clap.specs.declared.parser.matches.ValueSource.TheVariants.{CommandLine, DefaultValue}
 use Rattle.boc_words.specs.declared.arguments.Numbers.{Numbers}
 use Rattle.boc_words.specs.declared.arguments.Numbers.TheVariants.{UpTo, Every}
-use Rattle.boc_words.specs.Commands.{Argument, NumberOption, flag, number, operand, operands, parser_of, repeated, rule_at}
+use Rattle.boc_words.specs.Commands.{Argument, NumberOption, flag, needed, number, operand, operands, parser_of, repeated, rule_at}
 use Rattle.boc_words.proofs.Numbers.{HasOne, HaveOne, IsOne, other_rows, row_added, row_passed, row_read}
 use Rattle.boc_words.proofs.Walks.{Fine, KeepsDefault, bare, neither}
 
@@ -249,6 +249,7 @@ abbrev pub keeps : Argument → NumberOption → Bool
 keeps (number option) other = if bytes_eq option.id other.id then alike option other else true
 keeps (flag id) other = not (bytes_eq id other.id)
 keeps (repeated id) other = not (bytes_eq id other.id)
+keeps (needed id) other = not (bytes_eq id other.id)
 keeps (operand id) other = not (bytes_eq id other.id)
 keeps (operands id) other = not (bytes_eq id other.id)
 
@@ -269,6 +270,7 @@ fine_at (number option) i other keep = go (bytes_eq option.id other.id) refl kee
 fine_at (flag id) i other keep = fine_flag i id other (not_true (bytes_eq id other.id) keep)
 fine_at (repeated id) i other keep =
     fine_texts id (built_at i (repeated id)) other (not_true (bytes_eq id other.id) keep) (λ values rows. refl)
+fine_at (needed id) i other keep = fine_operand i id other (not_true (bytes_eq id other.id) keep)
 fine_at (operand id) i other keep = fine_operand i id other (not_true (bytes_eq id other.id) keep)
 fine_at (operands id) i other keep =
     fine_texts id (built_at i (operands id)) other (not_true (bytes_eq id other.id) keep) (λ values rows. refl)
@@ -277,6 +279,7 @@ keep_at : (a : Argument) (i : ℕ) (other : NumberOption) → keeps a other ≡ 
 keep_at (number option) i other keep = bare (HasOne other) (built_at i (number option)) refl
 keep_at (flag id) i other keep = keep_flag i id other (not_true (bytes_eq id other.id) keep)
 keep_at (repeated id) i other keep = bare (HasOne other) (built_at i (repeated id)) refl
+keep_at (needed id) i other keep = bare (HasOne other) (built_at i (needed id)) refl
 keep_at (operand id) i other keep = bare (HasOne other) (built_at i (operand id)) refl
 keep_at (operands id) i other keep = bare (HasOne other) (built_at i (operands id)) refl
 

@@ -1,5 +1,5 @@
 -- The commands, and which arguments each takes.
-use Rattle.std.specs.Prelude.{◌<◌, ◌≤◌, ◌-◌, ◌^◌, ℕ, List, [], ◌∷◌, Option, Some, None, map, pos, codes}
+use Rattle.std.specs.Prelude.{◌<◌, ◌≤◌, ◌-◌, ◌^◌, ℕ, List, [], ◌∷◌, Option, Some, None, map, pos, true, codes}
 use Rattle.std.specs.Str.{byte}
 use Rattle.clap.specs.Lexer.{usize_max}
 use Rattle.clap.specs.Simple.{new_shape}
@@ -22,12 +22,13 @@ pub record NumberOption : Type 0 where
   pub letter : Option ℕ
   pub numbers : Numbers
 
--- an argument: an option with a number; a flag, `--ID`; an option with a text, `--ID TEXT`, that may be given many times; one word; or any number
--- of words
+-- an argument: an option with a number; a flag, `--ID`; an option with a text, `--ID TEXT`, that may be given many times; one word that has to be there; one
+-- word; or any number of words
 pub data Argument : Type 0 where
   number : NumberOption → Argument
   flag : Text → Argument
   repeated : Text → Argument
+  needed : Text → Argument
   operand : Text → Argument
   operands : Text → Argument
 
@@ -123,6 +124,20 @@ record_file = codes "record"
 abbrev pub names_file : Text
 names_file = codes "names"
 
+-- `--names-a FILE` and `--names-b FILE`, of what they are called in the first of two inputs, and in the second
+abbrev pub before_names_file : Text
+before_names_file = codes "names-a"
+
+abbrev pub after_names_file : Text
+after_names_file = codes "names-b"
+
+-- the files that two inputs are read from
+abbrev pub before_operand : Text
+before_operand = codes "before"
+
+abbrev pub after_operand : Text
+after_operand = codes "after"
+
 -- the file that the input is read from
 abbrev pub input_operand : Argument
 input_operand = operand (codes "file")
@@ -167,12 +182,17 @@ signature_of kinds.Sweep = (
 signature_of kinds.Why = (
   codes "why",
   number runners_option ∷ number seed_option ∷ number depth_option ∷ timed_flag ∷ number workers_option ∷ sharing_flag ∷ typical_flag ∷ repeated record_file
-      ∷ repeated names_file ∷ all_flag ∷ number then_option ∷ quiet_flag ∷ input_operand ∷ [],
+      ∷ repeated names_file ∷ all_flag ∷ number then_option ∷ number runs_option ∷ quiet_flag ∷ input_operand ∷ [],
 )
 signature_of kinds.Cowns = (
   codes "cowns",
   number runners_option ∷ number seed_option ∷ number depth_option ∷ timed_flag ∷ number workers_option ∷ sharing_flag ∷ typical_flag ∷ repeated record_file
       ∷ repeated names_file ∷ number top_option ∷ quiet_flag ∷ input_operand ∷ [],
+)
+signature_of kinds.Compare = (
+  codes "compare",
+  number runners_option ∷ number seed_option ∷ number depth_option ∷ timed_flag ∷ number workers_option ∷ sharing_flag ∷ typical_flag ∷ repeated names_file
+      ∷ repeated before_names_file ∷ repeated after_names_file ∷ number runs_option ∷ quiet_flag ∷ needed before_operand ∷ needed after_operand ∷ [],
 )
 signature_of kinds.Outcomes =
     (codes "outcomes", number runs_option ∷ number seed_option ∷ number runners_option ∷ number depth_option ∷ input_operand ∷ [])
@@ -192,7 +212,7 @@ files_of _ = []
 -- every command, in the order of help
 abbrev pub every_kind : List Kind
 every_kind = kinds.Values ∷ kinds.Check ∷ kinds.Run ∷ kinds.Profile ∷ kinds.Time ∷ kinds.WhatIf ∷ kinds.Curve ∷ kinds.Sweep ∷ kinds.Why
-    ∷ kinds.Cowns ∷ kinds.Outcomes ∷ []
+    ∷ kinds.Cowns ∷ kinds.Compare ∷ kinds.Outcomes ∷ []
 
 -- each by its name, with what it takes
 abbrev pub commands_of_boc : List (Text × List Argument)
@@ -226,6 +246,10 @@ rule_at (repeated id) = record (new_rule id) {
   long = Some id;
   value_names = 1;
   action = Some actions.Append;
+}
+rule_at (needed id) = record (new_rule id) {
+  value_names = 1;
+  required = true;
 }
 rule_at (operand id) = record (new_rule id) { value_names = 1 }
 rule_at (operands id) = record (new_rule id) {

@@ -5,7 +5,7 @@ use Rattle.boc_words.specs.declared.arguments.Argument.{Argument as Listed}
 use Rattle.boc_words.specs.declared.arguments.Argument.TheVariants as listed
 use Rattle.boc_words.specs.declared.arguments.NumberOption.{NumberOption as ListedOption}
 use Rattle.boc_words.specs.declared.commands.Entry.{Entry}
-use Rattle.boc_words.specs.Commands.{Argument, NumberOption, flag, number, operand, operands, repeated}
+use Rattle.boc_words.specs.Commands.{Argument, NumberOption, flag, needed, number, operand, operands, repeated}
 
 -- the option that is listed
 abbrev pub option_of : ListedOption → NumberOption
@@ -16,6 +16,7 @@ abbrev pub argument_of : Listed → Argument
 argument_of (listed.Number option) = number (option_of option)
 argument_of (listed.Flag option) = flag option.id.now
 argument_of (listed.Repeated option) = repeated option.id.now
+argument_of (listed.Needed word) = needed word.id.now
 argument_of (listed.Word word) = operand word.id.now
 argument_of (listed.Words words) = operands words.id.now
 

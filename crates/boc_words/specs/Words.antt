@@ -26,9 +26,10 @@ use Rattle.boc_words.specs.declared.commands.Kind.{Kind}
 use Rattle.boc_words.specs.declared.commands.Kind.TheVariants as called
 use Rattle.boc_words.specs.Commands.{Argument, IsNumberOf, NumberOption, commands_of_boc, number_options, shape_of_command, signature_of}
 use Rattle.boc_words.specs.Commands.{best_option, depth_option, files_of, names_file, program_file, record_file, runners_option, runs_option, seed_option}
-use Rattle.boc_words.specs.Commands.{then_option, top_option, workers_option}
+use Rattle.boc_words.specs.Commands.{after_names_file, after_operand, before_names_file, before_operand, then_option, top_option, workers_option}
 use Rattle.boc_words.specs.EditWords.{IsEditWord, IsWritable, edit_word, is_edit}
 use Rattle.boc_words.specs.declared.asked.AskedChanges.{AskedChanges}
+use Rattle.boc_words.specs.declared.asked.AskedCompare.{AskedCompare}
 use Rattle.boc_words.specs.declared.asked.AskedCown.{AskedCown}
 use Rattle.boc_words.specs.declared.asked.AskedCown.TheVariants as cowns
 use Rattle.boc_words.specs.declared.asked.AskedCowns.{AskedCowns}
@@ -37,8 +38,10 @@ use Rattle.boc_words.specs.declared.asked.AskedDraws.{AskedDraws}
 use Rattle.boc_words.specs.declared.asked.AskedEdit.{AskedEdit}
 use Rattle.boc_words.specs.declared.asked.AskedPlans.{AskedPlans}
 use Rattle.boc_words.specs.declared.asked.AskedProfile.{AskedProfile}
+use Rattle.boc_words.specs.declared.asked.AskedRuns.{AskedRuns}
 use Rattle.boc_words.specs.declared.asked.AskedSweep.{AskedSweep}
 use Rattle.boc_words.specs.declared.asked.AskedWhy.{AskedWhy}
+use Rattle.boc_words.specs.declared.asked.CompareFiles.{CompareFiles}
 use Rattle.boc_words.specs.declared.asked.WhatIfFile.{WhatIfFile}
 use Rattle.boc_words.specs.declared.asked.WhatIfFile.TheVariants as supposed
 use Rattle.boc_words.specs.declared.asked.RunFile.{RunFile}
@@ -197,9 +200,10 @@ GivesFile rows file path = IsPathOf (values_at rows file) path
 abbrev pub edit_words : List Row → List Text
 edit_words rows = filter is_edit (values_at rows (codes "edits"))
 
--- the words that name the file of the input, of which a command takes one: of `whatif` those that don't look like edits
+-- the words that name the file of the input, of which a command takes one: of `whatif` those that don't look like edits, and of `compare` the first input
 abbrev pub input_words : Kind → List Row → List Text
 input_words called.WhatIf rows = filter (λ word. not (is_edit word)) (values_at rows (codes "edits"))
+input_words called.Compare rows = values_at rows before_operand
 input_words _ rows = values_at rows (codes "file")
 
 -- the input comes from no file, or from this one
@@ -275,6 +279,78 @@ abbrev pub AsksCowns : List Row → AskedCowns → Type 0
 AsksCowns rows asked =
     IsSchedule rows asked.schedule × AreWorkers rows asked.workers × AreShared rows asked.sharing × IsTypical rows asked.typical
     × GivesNumber top_option rows asked.top × IsQuiet rows asked.quiet
+
+-- ---- two inputs, and many runs
+
+-- the second of two inputs was not given, or more than once
+abbrev pub LacksAfter : List Row → Type 0
+LacksAfter rows = (path : Text) → values_at rows after_operand ≢ path ∷ []
+
+-- both inputs are standard input
+abbrev pub AreBothStandard : List Row → Type 0
+AreBothStandard rows = (values_at rows after_operand ≡ codes "-" ∷ []) × (values_at rows before_operand ≡ codes "-" ∷ [])
+
+-- the second of two inputs has this path, and they are not both standard input
+abbrev pub IsAfter : List Row → String Global → Type 0
+IsAfter rows path = (values_at rows after_operand ≡ string_bytes path ∷ []) × (AreBothStandard rows → ⊥)
+
+-- no file of names was given for an input, which is not a record; or this one: its own, or else the one for both
+abbrev pub AreNames : Text → List Row → Option RunFile → Type 0
+AreNames own rows None = GivesFile rows own None × GivesFile rows names_file None
+AreNames own rows (Some (files.Names path)) = GivesFile rows own (Some path) ⊎ (GivesFile rows own None × GivesFile rows names_file (Some path))
+AreNames own rows (Some (files.Record path)) = ⊥
+
+-- two files of names were given for an input by one option
+abbrev pub RepeatsNames : Text → List Row → Type 0
+RepeatsNames own rows = AreTooMany (own ∷ []) rows ⊎ AreTooMany (names_file ∷ []) rows
+
+-- these files were given beside the first of two inputs
+abbrev pub AreCompareFiles : List Row → CompareFiles → Type 0
+AreCompareFiles rows files =
+    IsAfter rows files.after × AreNames before_names_file rows files.before_names × AreNames after_names_file rows files.after_names
+
+-- this was asked of `compare`
+abbrev pub AsksCompare : List Row → AskedCompare → Type 0
+AsksCompare rows asked =
+    IsSchedule rows asked.schedule × AreWorkers rows asked.workers × AreShared rows asked.sharing × IsTypical rows asked.typical × IsQuiet rows asked.quiet
+
+-- an option was given where that is true, and not where it is false
+abbrev pub HasSome : List Text → Bool → Type 0
+HasSome texts true = texts ≢ []
+HasSome texts false = texts ≡ []
+
+-- a file of names was given, or none was
+abbrev pub HasNames : List Row → Type 0
+HasNames rows =
+    HasSome (values_at rows names_file) true ⊎ (HasSome (values_at rows before_names_file) true ⊎ HasSome (values_at rows after_names_file) true)
+
+abbrev pub HasNoNames : List Row → Type 0
+HasNoNames rows =
+    HasSome (values_at rows names_file) false × HasSome (values_at rows before_names_file) false × HasSome (values_at rows after_names_file) false
+
+-- something was given that is of one run alone
+abbrev pub IsOfOne : List Row → Type 0
+IsOfOne rows =
+    IsSet rows (codes "timed") ⊎ (IsSet rows (codes "typical") ⊎ (IsSet rows (codes "all") ⊎ (HasSome (values_at rows then_option.id) true
+    ⊎ (HasSome (values_at rows record_file) true ⊎ HasNames rows))))
+
+-- nothing was given that is
+abbrev pub IsOfMany : List Row → Type 0
+IsOfMany rows =
+    IsUnset rows (codes "timed") × IsUnset rows (codes "typical") × IsUnset rows (codes "all") × HasSome (values_at rows then_option.id) false
+    × HasSome (values_at rows record_file) false × HasNoNames rows
+
+-- `--runs` was given
+abbrev pub HasRuns : List Row → Type 0
+HasRuns rows = HasSome (values_at rows runs_option.id) true
+
+-- what was asked of many runs: how they are drawn, for how many workers they are judged, and how they share cowns
+pub record AreRuns (rows : List Row) (asked : AskedRuns) : Type 0 where
+  pub many : IsOfMany rows
+  pub draws : AreDraws rows asked.draws
+  pub workers : AreWorkers rows asked.workers
+  pub sharing : AreShared rows asked.sharing
+  pub quiet : IsQuiet rows asked.quiet
 
 -- `--short` was given, and the numbers before and after are told, or it was not
 abbrev pub IsShort : List Row → Bool → Type 0
@@ -382,6 +458,26 @@ IsOfDraws rows (faults.Parser e) = MissesNumber (runs_option ∷ seed_option ∷
 IsOfDraws rows faults.Memory = Unit {0}
 IsOfDraws rows _ = ⊥
 
+-- the fault is a conflict: there is no second input, or both are standard input; or it says that memory was refused
+abbrev pub IsOfAfter : List Row → WordsFault → Type 0
+IsOfAfter rows (faults.Parser e) = (kind_of e ≡ kinds.ArgumentConflict) × (LacksAfter rows ⊎ AreBothStandard rows)
+IsOfAfter rows faults.Memory = Unit {0}
+IsOfAfter rows _ = ⊥
+
+-- the fault is a conflict of two files of names by one option, or says that memory was refused
+abbrev pub IsOfNames : Text → List Row → WordsFault → Type 0
+IsOfNames own rows (faults.Parser e) = (kind_of e ≡ kinds.ArgumentConflict) × RepeatsNames own rows
+IsOfNames own rows faults.Memory = Unit {0}
+IsOfNames own rows _ = ⊥
+
+-- the fault is a conflict of many runs with what is of one alone, or says that a number behind an option cannot be read, or that memory was refused
+abbrev pub IsOfRuns : List Row → WordsFault → Type 0
+IsOfRuns rows (faults.Parser e) =
+    MissesNumber (runs_option ∷ seed_option ∷ runners_option ∷ depth_option ∷ workers_option ∷ []) rows
+    ⊎ ((kind_of e ≡ kinds.ArgumentConflict) × IsOfOne rows)
+IsOfRuns rows faults.Memory = Unit {0}
+IsOfRuns rows _ = ⊥
+
 -- the fault is a conflict of more files than one, or says that memory was refused
 abbrev pub IsOfFiles : List Text → List Row → WordsFault → Type 0
 IsOfFiles files rows (faults.Parser e) = (kind_of e ≡ kinds.ArgumentConflict) × AreTooMany files rows
@@ -407,7 +503,12 @@ Asks kind rows (commands.WhatIf schedule changes plans sharing file short) =
     × IsShort rows short
 Asks kind rows (commands.Curve asked record_path) = (kind ≡ called.Curve) × AsksCurve rows asked × GivesFile rows record_file record_path
 Asks kind rows (commands.Sweep asked file) = (kind ≡ called.Sweep) × AsksSweep rows asked × IsRunFile rows file
-Asks kind rows (commands.Why asked file) = (kind ≡ called.Why) × AsksWhy rows asked × IsRunFile rows file
+Asks kind rows (commands.Why asked file) =
+    (kind ≡ called.Why) × HasSome (values_at rows runs_option.id) false × AsksWhy rows asked × IsRunFile rows file
+Asks kind rows (commands.WhyRuns asked) = (kind ≡ called.Why) × HasRuns rows × AreRuns rows asked
+Asks kind rows (commands.Compare asked files) =
+    (kind ≡ called.Compare) × HasSome (values_at rows runs_option.id) false × AsksCompare rows asked × AreCompareFiles rows files
+Asks kind rows (commands.CompareRuns asked after) = (kind ≡ called.Compare) × HasRuns rows × AreRuns rows asked × IsAfter rows after
 Asks kind rows (commands.Cowns asked file) = (kind ≡ called.Cowns) × AsksCowns rows asked × IsRunFile rows file
 Asks kind rows (commands.Outcomes draws) = (kind ≡ called.Outcomes) × AreDraws rows draws
 Asks kind rows (commands.Help text) = ⊥
@@ -434,18 +535,28 @@ HasNoNumbers named = (kind : Kind) × Names named kind (MissesNumber number_opti
 abbrev pub HasSchedule : Kind → Type 0
 HasSchedule kind =
     (kind ≡ called.Run) ⊎ ((kind ≡ called.Profile) ⊎ ((kind ≡ called.Time) ⊎ ((kind ≡ called.WhatIf) ⊎ ((kind ≡ called.Curve)
-    ⊎ ((kind ≡ called.Sweep) ⊎ ((kind ≡ called.Why) ⊎ (kind ≡ called.Cowns)))))))
+    ⊎ ((kind ≡ called.Sweep) ⊎ ((kind ≡ called.Why) ⊎ ((kind ≡ called.Cowns) ⊎ (kind ≡ called.Compare))))))))
 
 -- more than one file is given for the input
 abbrev pub HasInputs : Kind → List Row → Type 0
 HasInputs kind rows = 2 ≤ length (input_words kind rows)
 
+-- the command reports on many runs where that is asked for
+abbrev pub TakesRuns : Kind → Type 0
+TakesRuns kind = (kind ≡ called.Why) ⊎ (kind ≡ called.Compare)
+
+-- of `compare` there is no second input, or both are standard input, or two files of names were given by one option
+abbrev pub IsUnfitPair : List Row → Type 0
+IsUnfitPair rows = (LacksAfter rows ⊎ AreBothStandard rows) ⊎ (RepeatsNames before_names_file rows ⊎ RepeatsNames after_names_file rows)
+
 -- what the parser takes for this command does not fit, for a conflict: of a sweep, options that are at odds; of a command that runs a program by a
--- schedule, a depth without a seed, or `--timed` with a seed; of any command, more files than one beside its input, or for it
+-- schedule, a depth without a seed, or `--timed` with a seed; of any command, more files than one beside its input, or for it; of a command that may report
+-- on many runs, what is of one alone; of `compare`, inputs or files of names
 pub record IsUnfit (kind : Kind) (rows : List Row) (error : ErrorKind) : Type 0 where
   pub conflict : error ≡ kinds.ArgumentConflict
   pub why : ((kind ≡ called.Sweep) × AreAtOdds rows) ⊎ ((HasSchedule kind × (LacksSeed rows ⊎ IsDrawnAndTimed rows))
-      ⊎ (AreTooMany (files_of kind) rows ⊎ HasInputs kind rows))
+      ⊎ ((AreTooMany (files_of kind) rows ⊎ HasInputs kind rows)
+      ⊎ ((TakesRuns kind × HasRuns rows × IsOfOne rows) ⊎ ((kind ≡ called.Compare) × IsUnfitPair rows))))
 
 -- a command was named, and what was found for it does not fit, for an error of this kind
 abbrev pub HasUnfit : Option (List ℕ × List Row) → ErrorKind → Type 0

@@ -63,6 +63,8 @@ pub(crate) enum Argument {
     Number(NumberOption),
     Flag(FlagOption),
     Repeated(RepeatedOption),
+    /// One word that has to be there.
+    Needed(Operands),
     /// One word.
     Word(Operands),
     /// Any number of words.
@@ -117,6 +119,12 @@ pub(crate) const RUNS: NumberOption = NumberOption {
     help: "Draw K runs, 1 to 1,000,000 [default: 1000]",
 };
 
+/// How many runs are drawn, where commands that report on one run may report on many.
+pub(crate) const MANY_RUNS: NumberOption = NumberOption {
+    help: "Draw K runs of a program instead of one, 1 to 1,000,000",
+    ..RUNS
+};
+
 /// The seed of the first run that is drawn.
 pub(crate) const FIRST_SEED: NumberOption = NumberOption {
     help: "Draw the first run with S, the next with S + 1 [default: 0]",
@@ -159,6 +167,12 @@ pub(crate) const SWEEP_WORKERS: NumberOption = NumberOption {
 /// For how many workers `why` and `cowns` judge.
 pub(crate) const WHY_WORKERS: NumberOption = NumberOption {
     help: "Judge by the greedy plan for P workers, 1 to 64",
+    ..WORKERS
+};
+
+/// For how many workers `compare` compares ends.
+pub(crate) const COMPARE_WORKERS: NumberOption = NumberOption {
+    help: "Also compare the greedy plans for P workers, 1 to 64",
     ..WORKERS
 };
 
@@ -275,6 +289,40 @@ pub(crate) const NAMES: RepeatedOption = RepeatedOption {
     help: "Read the names of rows and cowns from FILE",
 };
 
+/// The file with the names of rows and cowns of both inputs.
+pub(crate) const BOTH_NAMES: RepeatedOption = RepeatedOption {
+    help: "Read the names of rows and cowns of both from FILE",
+    ..NAMES
+};
+
+/// The file with the names of rows and cowns of the first input.
+pub(crate) const BEFORE_NAMES: RepeatedOption = RepeatedOption {
+    id: "names-a",
+    value_name: "FILE",
+    help: "Read those of BEFORE from FILE",
+};
+
+/// The file with the names of rows and cowns of the second input.
+pub(crate) const AFTER_NAMES: RepeatedOption = RepeatedOption {
+    id: "names-b",
+    value_name: "FILE",
+    help: "Read those of AFTER from FILE",
+};
+
+/// The file that the first of two inputs is read from.
+pub(crate) const BEFORE: Operands = Operands {
+    id: "before",
+    value_name: "BEFORE",
+    help: "Program or record to compare with; `-` is standard input",
+};
+
+/// The file that the second of two inputs is read from.
+pub(crate) const AFTER: Operands = Operands {
+    id: "after",
+    value_name: "AFTER",
+    help: "Program or record to compare; `-` is standard input",
+};
+
 /// The file that the input is read from.
 pub(crate) const INPUT: Operands = Operands {
     id: "file",
@@ -359,6 +407,10 @@ impl Argument {
                 .value_name(option.value_name)
                 .action(ArgAction::Append)
                 .help(option.help),
+            Argument::Needed(operand) => Arg::new(alloc, operand.id)
+                .value_name(operand.value_name)
+                .required(true)
+                .help(operand.help),
             Argument::Word(operand) => Arg::new(alloc, operand.id)
                 .value_name(operand.value_name)
                 .help(operand.help),

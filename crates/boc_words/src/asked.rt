@@ -126,6 +126,45 @@ pub struct AskedCowns {
     pub quiet: bool,
 }
 
+/// The options of `compare`, without the files that it reads.
+#[derive(Clone, Copy, Debug)]
+pub struct AskedCompare {
+    /// How an input is run, if it is a program.
+    pub schedule: Schedule,
+    /// For how many workers greedy plans are made, if for any.
+    pub workers: Option<Workers>,
+    /// How rows share cowns in plans.
+    pub sharing: Sharing,
+    /// Whether each row takes the median ticks of its def.
+    pub typical: bool,
+    /// Whether notes are left out.
+    pub quiet: bool,
+}
+
+/// The files that `compare` reads next to its first input.
+#[derive(Drop, Debug)]
+pub struct CompareFiles {
+    /// The path of the second input, which is `-` if that is standard input.
+    pub after: String,
+    /// The file with names for the first input, if there is one. It is never a record.
+    pub before_names: Option<RunFile>,
+    /// The file with names for the second input, if there is one. It is never a record.
+    pub after_names: Option<RunFile>,
+}
+
+/// The options of `why` and of `compare` that report on many runs of a program.
+#[derive(Clone, Copy, Debug)]
+pub struct AskedRuns {
+    /// Which runs are drawn.
+    pub draws: AskedDraws,
+    /// For how many workers runs are judged, if for any.
+    pub workers: Option<Workers>,
+    /// How rows share cowns in plans.
+    pub sharing: Sharing,
+    /// Whether notes are left out.
+    pub quiet: bool,
+}
+
 /// A file given with an input that is a program or a record.
 #[derive(Drop, Debug)]
 pub enum RunFile {

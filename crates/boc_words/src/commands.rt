@@ -6,12 +6,13 @@ ghost use Rattle.boc_words.specs.Commands.{app_of_command, commands_of_boc, sign
 ghost use Rattle.boc_words.specs.Tables.{listed_as};
 ghost use Rattle.boc_words.specs.Words.{IsNoneOf, Told, command_line, without_commands};
 
-use crate::arguments::Argument::{Flag, Number, Repeated, Word, Words};
+use crate::arguments::Argument::{Flag, Needed, Number, Repeated, Word, Words};
 use crate::arguments::{
-    ALL, Argument, BEST, CURVE_WORKERS, DEPTH, DRAWN_DEPTH, DRAWN_WORKERS, EARLY, EDITS,
-    FIRST_SEED, INPUT, NAMES, NO_PLAN, PROGRAM, QUIET, RECORD, RUNNERS, RUNNERS_ALONE, RUNS, SEED,
-    SHARING, SHORT, SWEEP_COWNS, SWEEP_SPAWNS, SWEEP_WORKERS, THEN, TIMED, TOP, TYPICAL,
-    WHY_WORKERS, WITHOUT, WORKERS,
+    AFTER, AFTER_NAMES, ALL, Argument, BEFORE, BEFORE_NAMES, BEST, BOTH_NAMES, COMPARE_WORKERS,
+    CURVE_WORKERS, DEPTH, DRAWN_DEPTH, DRAWN_WORKERS, EARLY, EDITS, FIRST_SEED, INPUT, MANY_RUNS,
+    NAMES, NO_PLAN, PROGRAM, QUIET, RECORD, RUNNERS, RUNNERS_ALONE, RUNS, SEED, SHARING, SHORT,
+    SWEEP_COWNS, SWEEP_SPAWNS, SWEEP_WORKERS, THEN, TIMED, TOP, TYPICAL, WHY_WORKERS, WITHOUT,
+    WORKERS,
 };
 use crate::version::VERSION;
 use boc_program::limits::{
@@ -32,6 +33,7 @@ pub(crate) enum Kind {
     Sweep,
     Why,
     Cowns,
+    Compare,
     Outcomes,
 }
 
@@ -300,6 +302,27 @@ on, up to K. It takes no set of cowns of which a part gains 75 % as much. `less`
 is the gain over the line above. It stops sooner if nothing that is tried gains
 anything. --all changes nothing then.
 
+With --runs K it draws K runs of a program: one for each seed from --seed on (0
+if not given), on --workers simulated workers (4 if not given). It prints:
+  least, median, most
+      The least, the middle and the greatest number of these runs; of two in the
+      middle the lower one. `a better order` is the order of boc help compare.
+      `the run on one worker ..` says if that run, which boc why reports
+      otherwise, has a longer or shorter span than all of these.
+  spans, ends for P
+      How many runs have a span, with --p an end for P, of this length
+  candidates
+      The 60 changes that most runs try, each made in every run: how much it
+      gains there (`least less`, `median`, `most`), and `best in`, the number of
+      runs in which it gains most. Of changes that gain as much only the first
+      counts, and none where nothing gains. A set of cowns is best only if no
+      part of it gains 75 % as much; it is listed only if no part of it gains
+      that much in every run. The greatest median comes first.
+It draws them the same way each time, on any number of threads. A behaviour that
+ends by a fault is counted like others, without a note. The input cannot be a
+record then, and --record, --names, --timed, --typical, --all and --then cannot
+be given. --depth needs no --seed.
+
 With --p, and without -w above 1, --seed, --timed and --record, a note on
 standard error says if the timed run on P workers, at most 16, has another span,
 unless --quiet is given. When that run ends is another number: add --timed to
@@ -312,8 +335,9 @@ With --typical each row takes the median of the ticks of its def's rows (of two
 in the middle the lower one), or as many as its spawns need. Its spawns move by
 the same part, rounded up, each at least a tick after the one before it. That
 takes out rows that took long by chance, and levels what differs on purpose too.
-Rows without names are defs of their own, so they keep their ticks. All that is
-printed is of these rows; both notes, and `end E on N workers`, are left out.
+Rows without names are defs of their own, so they keep their ticks. The answer
+is of these rows; both notes, and `end E on N workers`, are left out. A note on
+a behaviour that ended by a fault has the tick of the run.
 
 Four or more rows of one def that follow each other on the chain are folded into
 one line, unless --all is given. The other lists stop after 20 lines.
@@ -335,12 +359,13 @@ which rows that only read a cown share it. The options -w, --seed, --depth and
 Examples:
   boc why program.boc
   boc why -p 4 --then 3 program.boc
+  boc why --runs 200 program.boc
   boc why -w 4 --seed 3 program.boc
   boc run program.boc > run.record
   boc why --record run.record program.boc
 
-See also: boc help cowns, boc help whatif. Seeds and depth: boc help run. Exit
-statuses: boc --help.";
+See also: boc help cowns, boc help whatif, boc help compare. Seeds and depth:
+boc help run. Exit statuses: boc --help.";
 
 // What `cowns` prints.
 const COWNS_LINES: &str =
@@ -404,6 +429,64 @@ Examples:
   boc run -w 4 program.boc | boc cowns
 
 See also: boc help why, boc help whatif. Seeds and depth: boc help run. Exit
+statuses: boc --help.";
+
+// What `compare` prints.
+const COMPARE_LINES: &str =
+    "BEFORE and AFTER are each a program, which is run, or the record of a run, which
+begins with `boc`. One of them may be `-`, standard input. All numbers are ticks
+except rows, cowns, P, percents and seeds; boc --help has the rule.
+
+Output:
+  rows, work, span      As boc why has them: before, after, and the change
+  end for P, least for P
+                        With --p, when the greedy plan for P workers ends, and
+                        the tick before which no plan of these rows for P
+                        workers ends
+  a better order        When these rows end if each starts as soon as it is
+                        spawned and its cowns are free, in whatever order. That
+                        may be after the span.
+  bound for any order   No order of these rows on the cowns ends before it
+  typical work, typical span, typical end for P
+                        The same numbers if each row takes the median ticks of
+                        its def, as with --typical. Rows that took long by
+                        chance do not count then.
+  chain                 The three defs with most ticks of the critical path
+  def                   For each def its rows, their ticks together, the median
+                        of their ticks (typical), and its ticks of the critical
+                        path; each before, and `now`. `new` and `gone` mark a
+                        def of which only AFTER has rows, or only BEFORE.
+  cown                  For each cown or array: how many cowns it is, and how
+                        long the one is held that is held longest. Then how long
+                        rows wait for each of its cowns, added up, and the ticks
+                        of the critical path at links that hand on any of it.
+  last line             By how many percent of the first the span has changed,
+                        rounded down; the typical span, and the end for P
+Defs of one name go together, as do cowns, and arrays. Those come first that
+have most ticks of a critical path, before or after; tables stop after 20 lines.
+The lines of defs, and all that is typical, are left out if a record has no
+names; its cowns go by their numbers. With --typical all numbers are of such
+rows, and the typical ones are left out.
+
+Names are those of the program. A file for --names replaces them in both inputs,
+one for --names-a or --names-b in one of them; boc help why has its lines. The
+notes on behaviours that ended by a fault say which input they are of.
+
+With --runs K it draws K runs of each of two programs, by the same seeds from
+--seed on (0 if not given), on --workers simulated workers (4 if not given). It
+prints the least, the median and the greatest number of both. The last line says
+by how much the median span has changed, with --p the median end for P, and for
+how many seeds this span, or end, is less or the same. It notes no behaviour
+that ended by a fault. The inputs cannot be records then, and no --timed,
+--typical, --names, --names-a and --names-b can be given. --depth needs no
+--seed.
+
+Examples:
+  boc compare -p 4 before.boc after.boc
+  boc compare --runs 200 before.boc after.boc
+  boc compare --names-a a.names --names-b b.names a.record b.record
+
+See also: boc help why, boc help outcomes. Seeds and depth: boc help run. Exit
 statuses: boc --help.";
 
 // What `whatif` prints.
@@ -540,8 +623,8 @@ Input is read from FILE, or from standard input if FILE is missing or `-`. The
 answer goes to standard output, all of it or none, unless a write fails. Faults
 go to standard error: first where (a line of the input, or the number of an
 edit), then what is there. A behaviour that ends by a fault does not stop the
-command, and the status is 0: `values`, `run`, `time`, `profile`, `why` and
-`cowns` note such behaviours on standard error.
+command, and the status is 0: `values`, `run`, `time`, `profile`, `why`, `cowns`
+and `compare`, if not of --runs, note such behaviours on standard error.
 
 Exit statuses:
   0  Success
@@ -588,6 +671,7 @@ const EVERY_KIND: &[Kind] = &[
     Kind::Sweep,
     Kind::Why,
     Kind::Cowns,
+    Kind::Compare,
     Kind::Outcomes,
 ];
 
@@ -758,6 +842,7 @@ const WHY: Entry = Entry {
         Repeated(NAMES),
         Flag(ALL),
         Number(THEN),
+        Number(MANY_RUNS),
         Flag(QUIET),
         Word(INPUT),
     ],
@@ -782,6 +867,28 @@ const COWNS: Entry = Entry {
         Word(INPUT),
     ],
     lines: COWNS_LINES,
+};
+
+const COMPARE: Entry = Entry {
+    name: "compare",
+    about: about!("Show what has changed from one run to another"),
+    takes: &[
+        Number(RUNNERS),
+        Number(SEED),
+        Number(DEPTH),
+        Flag(TIMED),
+        Number(COMPARE_WORKERS),
+        Flag(SHARING),
+        Flag(TYPICAL),
+        Repeated(BOTH_NAMES),
+        Repeated(BEFORE_NAMES),
+        Repeated(AFTER_NAMES),
+        Number(MANY_RUNS),
+        Flag(QUIET),
+        Needed(BEFORE),
+        Needed(AFTER),
+    ],
+    lines: COMPARE_LINES,
 };
 
 const OUTCOMES: Entry = Entry {
@@ -813,6 +920,7 @@ impl Kind {
             Kind::Sweep => SWEEP,
             Kind::Why => WHY,
             Kind::Cowns => COWNS,
+            Kind::Compare => COMPARE,
             Kind::Outcomes => OUTCOMES,
         }
     }

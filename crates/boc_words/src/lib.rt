@@ -11,8 +11,8 @@ mod version;
 mod words;
 
 pub use asked::{
-    AskedChanges, AskedCown, AskedCowns, AskedCurve, AskedDraws, AskedEdit, AskedPlans,
-    AskedProfile, AskedSweep, AskedWhy, RunFile, WhatIfFile,
+    AskedChanges, AskedCompare, AskedCown, AskedCowns, AskedCurve, AskedDraws, AskedEdit,
+    AskedPlans, AskedProfile, AskedRuns, AskedSweep, AskedWhy, CompareFiles, RunFile, WhatIfFile,
 };
 pub use boc_program::count::{Runners, Runs};
 pub use fault::WordsFault;

@@ -10,6 +10,7 @@ ghost use Rattle.boc_words.specs.Words.{GivesFile, GivesNumber, IsAsked, IsCownT
 ghost use Rattle.boc_words.specs.Words.{IsOfFiles, IsOfKind, IsOfNoText, IsOfNumber, IsOfSweep, IsOver, IsRefused, IsRunFile, IsTextOfKind, IsUnread};
 ghost use Rattle.boc_words.specs.Words.{AreDraws, AreEditsOf, GivesOr, IsOfDraws, IsOfInput, IsOfPaths, IsOfSchedule, IsOfWords, IsPathOf, IsSchedule};
 ghost use Rattle.boc_words.specs.Words.{AreTimedWorkers, IsOfTimedWorkers, IsOfUntimed, IsUntimed};
+ghost use Rattle.boc_words.specs.Words.{AreNames, AreRuns, HasNames, HasNoNames, HasSome, IsAfter, IsOfAfter, IsOfMany, IsOfNames, IsOfOne, IsOfRuns};
 ghost use Rattle.boc_words.specs.Words.{AreChanges, AreEarlyDefs, ArePlans, ReadsFrom};
 ghost use Rattle.boc_words.specs.Words.{command_line, values_at};
 ghost use Rattle.std.specs.List.{filter};
@@ -19,13 +20,13 @@ ghost use Rattle.clap.specs.Words.{fault_of, found_of, kind_of, rows_of, subcomm
 ghost use Rattle.std.specs.Prelude.{◌≡◌, ◌∷◌, ◌<◌, ◌^◌, ◌↔◌, if◌then◌else◌, [], ℕ, IfErr, IfNone, IfOk, IfSome, IsTrue, codes, map, not, string_bytes};
 
 use crate::arguments::{
-    ALL, BEST, DEPTH, EARLY, EDITS, INPUT, NAMES, NO_PLAN, NumberOption, Numbers, PROGRAM, QUIET,
-    RECORD, RUNNERS, RUNS, RepeatedOption, SEED, SHARING, SHORT, SWEEP_COWNS, SWEEP_SPAWNS, THEN,
-    TIMED, TOP, TYPICAL, WITHOUT, WORKERS,
+    AFTER, AFTER_NAMES, ALL, BEFORE, BEFORE_NAMES, BEST, DEPTH, EARLY, EDITS, INPUT, NAMES,
+    NO_PLAN, NumberOption, Numbers, PROGRAM, QUIET, RECORD, RUNNERS, RUNS, RepeatedOption, SEED,
+    SHARING, SHORT, SWEEP_COWNS, SWEEP_SPAWNS, THEN, TIMED, TOP, TYPICAL, WITHOUT, WORKERS,
 };
 use crate::asked::{
-    AskedChanges, AskedCown, AskedCowns, AskedCurve, AskedDraws, AskedEdit, AskedPlans,
-    AskedProfile, AskedSweep, AskedWhy, RunFile, WhatIfFile,
+    AskedChanges, AskedCompare, AskedCown, AskedCowns, AskedCurve, AskedDraws, AskedEdit,
+    AskedPlans, AskedProfile, AskedRuns, AskedSweep, AskedWhy, CompareFiles, RunFile, WhatIfFile,
 };
 use crate::commands::{Kind, kind_of, parser};
 use crate::edit_word::{edit_of, is_edit};
@@ -101,6 +102,18 @@ pub enum Command {
     Why {
         asked: AskedWhy,
         file: Option<RunFile>,
+    },
+    /// What seeds draw of a program, and what changes gain in these runs.
+    WhyRuns(AskedRuns),
+    /// What has changed from one run to another.
+    Compare {
+        asked: AskedCompare,
+        files: CompareFiles,
+    },
+    /// What has changed from runs of one program to those of another, which has this path.
+    CompareRuns {
+        asked: AskedRuns,
+        after: String,
     },
     /// Which cowns of such a run are held and waited for.
     Cowns {
@@ -204,6 +217,7 @@ fn asked(alloc: Global, kind: Kind, matches: &ArgMatches) -> Result<Command, Wor
         Kind::Sweep => asked_sweep(alloc, matches),
         Kind::Why => asked_why(alloc, matches),
         Kind::Cowns => asked_cowns(alloc, matches),
+        Kind::Compare => asked_compare(alloc, matches),
         Kind::Outcomes => asked_outcomes(alloc, matches),
     }
 }
@@ -323,6 +337,9 @@ fn asked_why(alloc: Global, matches: &ArgMatches) -> Result<Command, WordsFault>
     ensures asked { IfOk result (Asks called.Why (rows_of (found_of matches.now))) }
     ensures refused { IfErr result (IsUnread called.Why (rows_of (found_of matches.now))) }
 {
+    if is_given(matches, RUNS.id) {
+        return Ok(Command::WhyRuns(runs_asked(alloc, matches)?));
+    }
     Ok(Command::Why {
         asked: AskedWhy {
             schedule: schedule_asked(alloc, matches)?,
@@ -353,6 +370,132 @@ fn asked_cowns(alloc: Global, matches: &ArgMatches) -> Result<Command, WordsFaul
         },
         file: run_file_asked(alloc, matches)?,
     })
+}
+
+// Returns what `compare` has to do, by what was found for it.
+fn asked_compare(alloc: Global, matches: &ArgMatches) -> Result<Command, WordsFault>
+    ensures asked { IfOk result (Asks called.Compare (rows_of (found_of matches.now))) }
+    ensures refused { IfErr result (IsUnread called.Compare (rows_of (found_of matches.now))) }
+{
+    let after = after_asked(alloc, matches)?;
+    if is_given(matches, RUNS.id) {
+        let asked = runs_asked(alloc, matches)?;
+        return Ok(Command::CompareRuns { asked, after });
+    }
+    Ok(Command::Compare {
+        asked: AskedCompare {
+            schedule: schedule_asked(alloc, matches)?,
+            workers: workers_asked(alloc, matches)?,
+            sharing: sharing_asked(matches),
+            typical: is_set(texts_at(matches, TYPICAL.id)),
+            quiet: is_set(texts_at(matches, QUIET.id)),
+        },
+        files: CompareFiles {
+            after,
+            before_names: names_asked(alloc, matches, &BEFORE_NAMES)?,
+            after_names: names_asked(alloc, matches, &AFTER_NAMES)?,
+        },
+    })
+}
+
+// Returns the path of the second of two inputs. It is a fault if there is none, and if both are standard input.
+fn after_asked(alloc: Global, matches: &ArgMatches) -> Result<String, WordsFault>
+    ensures asked { IfOk result (IsAfter (rows_of (found_of matches.now))) }
+    ensures refused { IfErr result (IsOfAfter (rows_of (found_of matches.now))) }
+{
+    let [after] = texts_at(matches, AFTER.id) else {
+        return Err(at_odds(alloc, "the command compares two inputs, BEFORE and AFTER"));
+    };
+    if *after == "-" && is_standard_input(texts_at(matches, BEFORE.id)) {
+        return Err(at_odds(alloc, "BEFORE and AFTER cannot both be `-`, standard input"));
+    }
+    Ok(String::from_str(alloc, after)?)
+}
+
+// Returns whether this is the one word that stands for standard input.
+fn is_standard_input(texts: &[&str]) -> bool
+    ensures { IsTrue result ↔ (map (λ text. text.now) texts.now ≡ codes "-" ∷ []) }
+{
+    let [text] = texts else {
+        return false;
+    };
+    *text == "-"
+}
+
+// Returns the file of names of one of two inputs: its own, or else the one for both. Two of either are a fault.
+fn names_asked(
+    alloc: Global,
+    matches: &ArgMatches,
+    own: &RepeatedOption,
+) -> Result<Option<RunFile>, WordsFault>
+    ensures asked { IfOk result (AreNames own.now.id.now (rows_of (found_of matches.now))) }
+    ensures refused { IfErr result (IsOfNames own.now.id.now (rows_of (found_of matches.now))) }
+{
+    let both = file_asked(alloc, matches, &NAMES)?;
+    match (file_asked(alloc, matches, own)?, both) {
+        (Some(own), _) => Ok(Some(RunFile::Names(own))),
+        (None, Some(both)) => Ok(Some(RunFile::Names(both))),
+        (None, None) => Ok(None),
+    }
+}
+
+// Returns the runs that are asked for instead of one. It is a fault to ask for what is of one run alone too.
+fn runs_asked(alloc: Global, matches: &ArgMatches) -> Result<AskedRuns, WordsFault>
+    ensures asked { IfOk result (AreRuns (rows_of (found_of matches.now))) }
+    ensures refused { IfErr result (IsOfRuns (rows_of (found_of matches.now))) }
+{
+    if let Some(text) = of_one_run(matches) {
+        return Err(at_odds(alloc, text));
+    }
+    Ok(AskedRuns {
+        draws: draws_asked(alloc, matches)?,
+        workers: workers_asked(alloc, matches)?,
+        sharing: sharing_asked(matches),
+        quiet: is_set(texts_at(matches, QUIET.id)),
+    })
+}
+
+// Returns what is wrong with an option that is of one run alone, where many are asked for and there is such an option.
+fn of_one_run(matches: &ArgMatches) -> Option<&'static str>
+    ensures none { IfNone result (IsOfMany (rows_of (found_of matches.now))) }
+    ensures some { IfSome result (λ text. IsOfOne (rows_of (found_of matches.now))) }
+{
+    if is_set(texts_at(matches, TIMED.id)) {
+        Some("the argument '--runs <K>' cannot be used with '--timed'")
+    } else if is_set(texts_at(matches, TYPICAL.id)) {
+        Some("the argument '--runs <K>' cannot be used with '--typical'")
+    } else if is_set(texts_at(matches, ALL.id)) {
+        Some("the argument '--runs <K>' cannot be used with '--all'")
+    } else if is_given(matches, THEN.id) {
+        Some("the argument '--runs <K>' cannot be used with '--then <K>'")
+    } else if is_given(matches, RECORD.id) {
+        Some("the argument '--runs <K>' cannot be used with '--record <FILE>'")
+    } else {
+        names_of_one_run(matches)
+    }
+}
+
+// Returns the same of the options with a file of names.
+fn names_of_one_run(matches: &ArgMatches) -> Option<&'static str>
+    ensures none { IfNone result (HasNoNames (rows_of (found_of matches.now))) }
+    ensures some { IfSome result (λ text. HasNames (rows_of (found_of matches.now))) }
+{
+    if is_given(matches, NAMES.id) {
+        Some("the argument '--runs <K>' cannot be used with '--names <FILE>'")
+    } else if is_given(matches, BEFORE_NAMES.id) {
+        Some("the argument '--runs <K>' cannot be used with '--names-a <FILE>'")
+    } else if is_given(matches, AFTER_NAMES.id) {
+        Some("the argument '--runs <K>' cannot be used with '--names-b <FILE>'")
+    } else {
+        None
+    }
+}
+
+// Returns whether an option with a value was given.
+fn is_given(matches: &ArgMatches, id: &str) -> bool
+    ensures { HasSome (values_at (rows_of (found_of matches.now)) id.now) result }
+{
+    !texts_at(matches, id).is_empty()
 }
 
 // Returns what `outcomes` has to do, by what was found for it.
@@ -434,6 +577,7 @@ fn input_asked(
             let paths = words_that(alloc, texts_at(matches, EDITS.id), false)?;
             one_input(alloc, &paths)
         }
+        Kind::Compare => one_input(alloc, texts_at(matches, BEFORE.id)),
         _ => one_input(alloc, texts_at(matches, INPUT.id)),
     }
 }

@@ -3,12 +3,12 @@ use Rattle.std.proofs.Common.{map, ◌≡◌, List, [], ◌∷◌, Some, None, t
 use Rattle.clap.proofs.OnLiterals.{clap_on_literals}
 use Rattle.clap.specs.Words.{Text, fault_of, is_simple, is_simple_and_free, subcommand_of}
 use Rattle.clap.specs.declared.error.kind.ErrorKind.TheVariants as kinds
-use Rattle.boc_words.specs.Commands.{files_of, then_option, top_option}
+use Rattle.boc_words.specs.Commands.{after_names_file, after_operand, before_operand, files_of, then_option, top_option}
 use Rattle.boc_words.specs.EditWords.{edit_word}
 use Rattle.boc_words.specs.declared.asked.AskedCown.TheVariants.{Number}
 use Rattle.boc_words.specs.declared.asked.AskedEdit.TheVariants.{Row}
 use Rattle.boc_words.specs.Words.{AreAtOdds, AreCowns, AreDraws, AreRunners, AreShared, AreTaken, AreUpTo, AreTooMany, AreWorkers, IsOver, IsSchedule}
-use Rattle.boc_words.specs.Words.{GivesNumber, LacksSeed, Names}
+use Rattle.boc_words.specs.Words.{AreBothStandard, GivesNumber, HasRuns, IsOfOne, LacksSeed, Names}
 use Rattle.boc_words.specs.Words.{command_line, edit_words, values_at}
 use Rattle.boc_words.specs.declared.commands.Kind.TheVariants as called
 use Rattle.boc_words.specs.declared.schedule.Schedule.TheVariants.{Drawn, Timed}
@@ -305,7 +305,48 @@ outcomes_named = (
   },
 )
 
+abbrev compare_words : List Text
+compare_words = codes "boc" ∷ codes "compare" ∷ codes "-p4" ∷ codes "a" ∷ codes "--names-b=n" ∷ codes "-" ∷ []
+
+pub compare_taken : AreTaken compare_words
+unfolding clap_on_literals
+compare_taken = refl
+
+pub compare_named : Names (subcommand_of command_line compare_words) called.Compare (λ rows.
+    (values_at rows before_operand ≡ codes "a" ∷ []) × (values_at rows after_operand ≡ codes "-" ∷ [])
+    × (values_at rows after_names_file ≡ codes "n" ∷ []))
+unfolding clap_on_literals
+compare_named = (_, refl, (refl, refl, refl))
+
+-- the parser takes these, and both inputs are standard input
+abbrev standard_words : List Text
+standard_words = codes "boc" ∷ codes "compare" ∷ codes "-" ∷ codes "-" ∷ []
+
+pub standard_taken : AreTaken standard_words
+unfolding clap_on_literals
+standard_taken = refl
+
+pub standard_named : Names (subcommand_of command_line standard_words) called.Compare (λ rows. AreBothStandard rows)
+unfolding clap_on_literals
+standard_named = (_, refl, (refl, refl))
+
+-- the parser takes these, and what is of one run stands beside many
+abbrev many_words : List Text
+many_words = codes "boc" ∷ codes "why" ∷ codes "--runs" ∷ codes "9" ∷ codes "--timed" ∷ []
+
+pub many_taken : AreTaken many_words
+unfolding clap_on_literals
+many_taken = refl
+
+pub many_named : Names (subcommand_of command_line many_words) called.Why (λ rows. HasRuns rows × IsOfOne rows)
+unfolding clap_on_literals
+many_named = (_, refl, (λ e. cc, inl refl))
+
 -- ---- words that are not
+
+pub one_input : fault_of command_line (codes "boc" ∷ codes "compare" ∷ codes "a" ∷ []) ≡ kinds.MissingRequiredArgument ∷ []
+unfolding clap_on_literals
+one_input = refl
 
 pub no_command : fault_of command_line (codes "boc" ∷ []) ≡ kinds.DisplayHelpOnMissingArgumentOrSubcommand ∷ []
 unfolding clap_on_literals

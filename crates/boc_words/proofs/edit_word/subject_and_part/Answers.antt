@@ -1,4 +1,4 @@
-use Rattle.std.proofs.Common.{◌≡◌, ◌∙◌, false, true, ◌++◌, ◌∷◌, ◌<◌, ◌≤◌, ◌^◌, ℕ, List, arith, decimal, Some, ap, ap₂, refl, sym}
+use Rattle.std.proofs.Common.{◌≡◌, ◌∙◌, false, true, ◌++◌, ◌∷◌, ◌<◌, ◌≤◌, ◌^◌, ℕ, arith, decimal, Some, ap, ap₂, refl, sym}
 use Rattle.boc_plans.specs.Fractions.{Fraction}
 use Rattle.boc_program.specs.declared.limits.TheConstants.{MOST_PART}
 use Rattle.boc_words.specs.EditWords.{IsPart, equals_sign}

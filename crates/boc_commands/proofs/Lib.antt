@@ -10,3 +10,4 @@ pub mod OneTold
 pub mod OneChange
 pub mod OneOfEither
 pub mod OneMeasured
+pub mod OneCompared

@@ -1,5 +1,5 @@
 -- There is one list of the rows that a command reports on.
-use Rattle.std.proofs.Common.{◌≡◌, ◌∙◌, ℕ, Bool, true, false, List, length, Option, None, refl, ap, sym, subst}
+use Rattle.std.proofs.Common.{◌≡◌, ◌∙◌, ℕ, Bool, true, false, List, Option, refl, sym, subst}
 use Rattle.std.specs.Prelude.{option_map}
 use Rattle.boc_busy.specs.declared.timed.TimedRows.{TimedRows}
 use Rattle.boc_runs.specs.declared.rows.Row.{Row}

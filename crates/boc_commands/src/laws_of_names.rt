@@ -6,12 +6,14 @@ ghost use Rattle.boc_runs.specs.Records.{Recorded};
 ghost use Rattle.boc_plans.specs.declared.sharing.Sharing.{Sharing};
 ghost use Rattle.boc_record.specs.RecordTexts.{IsTextOf};
 ghost use Rattle.boc_words.specs.declared.asked.AskedChanges.{AskedChanges};
+ghost use Rattle.boc_words.specs.declared.asked.AskedCompare.{AskedCompare};
 ghost use Rattle.boc_words.specs.declared.asked.AskedCowns.{AskedCowns};
 ghost use Rattle.boc_words.specs.declared.asked.AskedCurve.{AskedCurve};
 ghost use Rattle.boc_words.specs.declared.asked.AskedPlans.{AskedPlans};
 ghost use Rattle.boc_words.specs.declared.asked.AskedProfile.{AskedProfile};
 ghost use Rattle.boc_words.specs.declared.asked.AskedSweep.{AskedSweep};
 ghost use Rattle.boc_words.specs.declared.asked.AskedWhy.{AskedWhy};
+ghost use Rattle.boc_words.specs.declared.asked.CompareFiles.{CompareFiles};
 ghost use Rattle.boc_words.specs.declared.asked.WhatIfFile.{WhatIfFile};
 ghost use Rattle.boc_words.specs.declared.asked.RunFile.{RunFile};
 ghost use Rattle.boc_words.specs.declared.asked.RunFile.TheVariants as run_files;
@@ -22,6 +24,8 @@ ghost use Rattle.boc_plan_commands.specs.Tells.{TellsCowns, TellsProfileOf, Tell
 ghost use Rattle.boc_plan_commands.specs.ProgramInputs.{IsCurveOf, IsProgramCurve};
 ghost use Rattle.boc_plan_commands.specs.SweepAnswers.{AnswersSweep, IsProgramSweep};
 ghost use Rattle.boc_plan_commands.specs.WhatIfAnswers.{AnswersWhatIf, IsProgramWhatIf, IsWhatIfAnswer};
+ghost use Rattle.boc_several_commands.specs.declared.compare.Pair.{Pair};
+ghost use Rattle.boc_several_commands.specs.Comparing.{TellsCompare};
 
 /// Proves that of one run there is one answer at most of `why`, with one text of notes, and one of `cowns`. Where a program comes in, the threads decide which
 /// run is reported of; its record decides all that is reported.
@@ -53,6 +57,17 @@ pub fn run_in_a_file_has_one_answer()
     ensures cowns { (asked : AskedCowns) (path : String Global) (bytes input notes output others other : List ℕ)
         → TellsCowns asked (Some (run_files.Record path)) bytes notes input output
         → TellsCowns asked (Some (run_files.Record path)) bytes others input other → (notes ≡ others) × (output ≡ other) }
+{}
+
+/// Proves that of two runs there is one answer at most of `compare`, with one text of notes: their records decide all that is reported. So two texts of records
+/// have one, with files of names or without.
+pub fn two_runs_have_one_answer()
+    ensures runs { (asked : AskedCompare) (files : CompareFiles) (pair : Pair) (input notes output others other : List ℕ)
+        → (one : TellsCompare asked files pair notes input output) → (another : TellsCompare asked files pair others input other)
+        → one.before_is.recorded ≡ another.before_is.recorded → one.after_is.recorded ≡ another.after_is.recorded → (notes ≡ others) × (output ≡ other) }
+    ensures records { (asked : AskedCompare) (files : CompareFiles) (pair : Pair) (input notes output others other : List ℕ) (before after : Recorded)
+        → IsTextOf input before → IsTextOf pair.after.items after → TellsCompare asked files pair notes input output
+        → TellsCompare asked files pair others input other → (notes ≡ others) × (output ≡ other) }
 {}
 
 /// Proves that what is supposed of a record has one answer of `whatif` at most, at length or in short, with a program, with a file of names, or by numbers.

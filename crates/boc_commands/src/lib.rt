@@ -16,11 +16,12 @@ pub use boc_run_commands::{
     Fault, FileFault, InputFault, Line, NamedRun, Origin, Want, check_against_cmd, check_cmd,
     outcomes_cmd, run_cmd, time_cmd, values_after_cmd, values_cmd,
 };
+pub use boc_several_commands::{Pair, Which, compare_cmd, compare_runs_cmd, why_runs_cmd};
 // What receives how far a command is.
 pub use boc_progress::{Progress, Silent};
 // What the words of a command line ask for.
 pub use boc_words::{
-    AskedChanges, AskedCown, AskedCowns, AskedCurve, AskedDraws, AskedEdit, AskedPlans,
-    AskedProfile, AskedSweep, AskedWhy, Command, CommandLine, RunFile, Runners, Runs, Schedule,
-    VERSION, WhatIfFile, WordsFault, not_text, read_words,
+    AskedChanges, AskedCompare, AskedCown, AskedCowns, AskedCurve, AskedDraws, AskedEdit,
+    AskedPlans, AskedProfile, AskedRuns, AskedSweep, AskedWhy, Command, CommandLine, CompareFiles,
+    RunFile, Runners, Runs, Schedule, VERSION, WhatIfFile, WordsFault, not_text, read_words,
 };

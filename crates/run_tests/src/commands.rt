@@ -4,7 +4,9 @@ ghost use Rattle.std.specs.Prelude.{◌≡◌};
 
 use crate::gates::{Meeting, Place, StopsAtSecondBody, StopsAtSwap};
 use crate::workers::{TRANSFER, TWO_ORDERS};
-use boc_commands::{AskedPlans, Command, Fault, Runners, Schedule, Silent, run_command};
+use boc_commands::{
+    AskedPlans, Command, Fault, Pair, Runners, Schedule, Silent, Which, run_command,
+};
 use boc_input::Ahead;
 use boc_plans::sharing::Sharing;
 use boc_text::Bytes;
@@ -51,8 +53,10 @@ fn done<R: Abort + Threads + Wait + Sync, G: Gate>(
         gate,
         command,
         Vec::new(alloc),
+        Pair::none(alloc),
         &mut Silent,
         &mut Vec::new(alloc),
+        &mut Which::Before,
         &mut Ahead::new(alloc, bytes(rt, alloc, text)),
         sink,
     )

@@ -1,0 +1,4 @@
+pub mod WhyRuns
+pub mod Comparing
+pub mod RunsTexts
+pub mod CompareRuns

@@ -1,15 +1,15 @@
 //! What is reported below the line of a fault.
 
 use boc_commands::{
-    AskedCown, AskedEdit, Command, Fault, InputFault, RunFile, Schedule, WhatIfFile, WordsFault,
-    file_named,
+    AskedCown, AskedDraws, AskedEdit, Command, Fault, InputFault, RunFile, Schedule, WhatIfFile,
+    Which, WordsFault, file_named,
 };
 use boc_explain::{
     Asked, Kept, Naming, explain_cown, explain_def, explain_edit, explain_edit_of_run,
     explain_edit_word, explain_words,
 };
 use boc_explain_program::{AtDepth, explain_behaviours};
-use boc_front::{Sources, drawn_at_depth, explain_input};
+use boc_front::{Sources, drawn_at_depth, explain_input, printed};
 use boc_input::begins_program;
 use boc_plans::edit::{Change, Edit, EditFault, Part};
 use boc_said::place::Beside;
@@ -17,14 +17,16 @@ use boc_workers::RunFault;
 use std::alloc::{AllocError, Global};
 
 // The names of the commands.
-const COMMANDS: [&str; 12] = [
+const COMMANDS: [&str; 13] = [
     "values", "check", "run", "profile", "time", "whatif", "curve", "sweep", "why", "cowns",
-    "outcomes", "help",
+    "compare", "outcomes", "help",
 ];
 
 /// What a command read.
 #[derive(Drop)]
 pub(crate) struct Texts {
+    /// Which of two inputs it is, where there are two.
+    pub which: Which,
     /// The input.
     pub input: Kept,
     /// The file given with it.
@@ -66,12 +68,65 @@ pub(crate) fn explained(
         Fault::Input(InputFault::Def { number }) => {
             missing_def(alloc, command, texts, edited_def(command, *number))
         }
-        Fault::Input(fault) => explain_input(alloc, *fault, sources_of(command, path, texts)),
-        Fault::Run(RunFault::Behaviours) if texts.input.is_whole() => {
-            explain_behaviours(alloc, texts.input.as_slice(), depth_of(command))
-        }
+        Fault::Input(fault) => explained_input(alloc, *fault, command, path, texts),
+        Fault::Run(fault) => explained_run(alloc, *fault, command, path, texts),
         _ => Ok(String::new(alloc)),
     }
+}
+
+// Returns what is reported of a fault in an input, or in the file given with it. Of two inputs it says which one it is, where the place has no path.
+fn explained_input(
+    alloc: Global,
+    fault: InputFault,
+    command: &Command,
+    path: Option<&String>,
+    texts: &Texts,
+) -> Result<String, AllocError> {
+    let mut told = String::new(alloc);
+    if let InputFault::Beside(_) = fault {
+        put_side(alloc, &mut told, command, "     for the run of ", path)?;
+    } else if path.is_none() {
+        put_side(alloc, &mut told, command, "     in ", None)?;
+    }
+    let more = explain_input(alloc, fault, sources_of(command, path, texts))?;
+    told.push_str(&more)?;
+    Ok(told)
+}
+
+// Appends a line with the name of an input after these words, where a command compares two.
+fn put_side(
+    alloc: Global,
+    told: &mut String,
+    command: &Command,
+    words: &str,
+    path: Option<&String>,
+) -> Result<(), AllocError> {
+    if after_of(command).is_none() {
+        return Ok(());
+    }
+    told.push_str(words)?;
+    match path {
+        Some(path) => told.push_str(&printed(alloc, path)?)?,
+        None => told.push_str("standard input")?,
+    }
+    told.push_str("\n")
+}
+
+// Returns what is reported of a run that was given up. Of two inputs it says which one it is.
+fn explained_run(
+    alloc: Global,
+    fault: RunFault,
+    command: &Command,
+    path: Option<&String>,
+    texts: &Texts,
+) -> Result<String, AllocError> {
+    let mut told = String::new(alloc);
+    put_side(alloc, &mut told, command, "     of the run of ", path)?;
+    if fault == RunFault::Behaviours && texts.input.is_whole() {
+        let more = explain_behaviours(alloc, texts.input.as_slice(), depth_of(command))?;
+        told.push_str(&more)?;
+    }
+    Ok(told)
 }
 
 // Returns how a command draws runs, if it does so at a depth.
@@ -84,12 +139,21 @@ fn depth_of(command: &Command) -> Option<AtDepth> {
         Command::Sweep { asked, .. } => drawn_at_depth(&asked.schedule),
         Command::Why { asked, .. } => drawn_at_depth(&asked.schedule),
         Command::Cowns { asked, .. } => drawn_at_depth(&asked.schedule),
-        Command::Outcomes(draws) => drawn_at_depth(&Schedule::Drawn {
-            workers: draws.workers,
-            seed: draws.seed,
-            depth: draws.depth,
-        }),
+        Command::Compare { asked, .. } => drawn_at_depth(&asked.schedule),
+        Command::WhyRuns(asked) | Command::CompareRuns { asked, .. } => {
+            drawn_at_depth(&schedule_of(asked.draws))
+        }
+        Command::Outcomes(draws) => drawn_at_depth(&schedule_of(*draws)),
         _ => None,
+    }
+}
+
+/// Returns how the first of some draws is drawn.
+pub(crate) fn schedule_of(draws: AskedDraws) -> Schedule {
+    Schedule::Drawn {
+        workers: draws.workers,
+        seed: draws.seed,
+        depth: draws.depth,
     }
 }
 
@@ -100,8 +164,38 @@ fn sources_of<'a>(command: &'a Command, path: Option<&'a String>, texts: &'a Tex
         input: &texts.input,
         input_path: path.map(String::as_str),
         beside: &texts.beside,
-        beside_path: file_named(command),
-        kind: beside_of(command),
+        beside_path: match names_of(command, texts.which) {
+            Some(path) => Some(path.as_str()),
+            None => file_named(command),
+        },
+        kind: match command {
+            Command::Compare { .. } => Some(Beside::Names),
+            _ => beside_of(command),
+        },
+    }
+}
+
+/// Returns the path of the file of names for one of the inputs that a command compares, if there is one.
+pub(crate) fn names_of(command: &Command, which: Which) -> Option<&String> {
+    let Command::Compare { files, .. } = command else {
+        return None;
+    };
+    let file = match which {
+        Which::Before => &files.before_names,
+        Which::After => &files.after_names,
+    };
+    match file {
+        Some(RunFile::Names(path) | RunFile::Record(path)) => Some(path),
+        None => None,
+    }
+}
+
+/// Returns the path of the second input of a command that compares two.
+pub(crate) fn after_of(command: &Command) -> Option<&String> {
+    match command {
+        Command::Compare { files, .. } => Some(&files.after),
+        Command::CompareRuns { after, .. } => Some(after),
+        _ => None,
     }
 }
 
@@ -305,6 +399,9 @@ fn name_of(command: &Command) -> &'static str {
         Command::Sweep { .. } => "sweep",
         Command::Why { .. } => "why",
         Command::Cowns { .. } => "cowns",
+        Command::WhyRuns(_) => "why --runs",
+        Command::Compare { .. } => "compare",
+        Command::CompareRuns { .. } => "compare --runs",
         Command::Outcomes(_) => "outcomes",
         Command::Help(_) | Command::Version => "boc",
     }

@@ -3,17 +3,20 @@
 
 mod explaining;
 
-use crate::explaining::{Texts, beside_of, explained, explained_words};
+use crate::explaining::{
+    Texts, after_of, beside_of, explained, explained_words, names_of, schedule_of,
+};
 use boc_commands::{
-    Command, Fault, RunFile, Schedule, Want, WhatIfFile, WordsFault, file_named, read_words,
+    Command, Fault, Pair, RunFile, Want, WhatIfFile, Which, WordsFault, file_named, read_words,
     run_command,
 };
 use boc_explain::{Input, Kept};
 use boc_front::{
     Given, MOST_INPUT, Meter, STACK, Stop, Watch, ended, idle_file_note, idle_note,
-    idle_note_beside, printed_words, read_beside, words_given,
+    idle_note_beside, printed_words, read_beside, read_second, words_given,
 };
 use boc_input::Ahead;
+use boc_said::place::Beside as Place;
 use boc_text::Counted;
 use std::alloc::AllocError;
 use std::fs::File;
@@ -40,13 +43,74 @@ fn run(rt: HostRuntime, threads: &(impl Threads + Wait + Sync)) -> Result<(), St
     let line = read_words(rt.alloc(), &words).or_else(|fault| words_stop(rt, &words, fault))?;
     let given = Given::among(&words);
     let beside = file_beside(rt, &line.command)?;
+    let files = Beside {
+        pair: pair_beside(rt, &line.command)?,
+        file: beside,
+    };
     match &line.input {
         Some(path) if path.as_str() != "-" => match File::open(&rt, path.as_str()) {
-            Ok(file) => answer(rt, threads, &line.command, given, beside, file, Some(path)),
+            Ok(file) => answer(rt, threads, &line.command, given, files, file, Some(path)),
             Err(error) => file_stop(rt, path, error, Some(&line.command)),
         },
-        _ => answer(rt, threads, &line.command, given, beside, rt.stdin(), None),
+        _ => answer(rt, threads, &line.command, given, files, rt.stdin(), None),
     }
+}
+
+// What a command reads next to its input.
+#[derive(Drop)]
+struct Beside {
+    // The bytes of the file that it names.
+    file: Vec<u8>,
+    // What it compares its input with.
+    pair: Pair,
+}
+
+// What is kept of that for who explains a fault in it.
+#[derive(Drop)]
+struct KeptBeside {
+    file: Kept,
+    after: Kept,
+    before_names: Kept,
+    after_names: Kept,
+}
+
+impl KeptBeside {
+    // Keeps what a command reads next to its input.
+    fn of(rt: HostRuntime, beside: &Beside) -> KeptBeside {
+        KeptBeside {
+            file: kept(rt, &beside.file),
+            after: kept(rt, &beside.pair.after),
+            before_names: kept(rt, &beside.pair.before_names),
+            after_names: kept(rt, &beside.pair.after_names),
+        }
+    }
+
+    // Returns what a command read, where a fault is in this one of the inputs that it compares, if it compares any.
+    fn texts(self, command: &Command, which: Which, input: Kept) -> Texts {
+        let KeptBeside {
+            file,
+            after,
+            before_names,
+            after_names,
+        } = self;
+        let (input, beside) = match (after_of(command), which) {
+            (None, _) => (input, file),
+            (Some(_), Which::Before) => (input, before_names),
+            (Some(_), Which::After) => (after, after_names),
+        };
+        Texts {
+            which,
+            input,
+            beside,
+        }
+    }
+}
+
+// Keeps bytes.
+fn kept(rt: HostRuntime, bytes: &[u8]) -> Kept {
+    let mut kept = Kept::new(rt.alloc());
+    kept.keep(bytes);
+    kept
 }
 
 // Answers an input, which a file with this path gives if there is one, and else standard input.
@@ -55,12 +119,12 @@ fn answer<T: Read + Drop>(
     threads: &(impl Threads + Wait + Sync),
     command: &Command,
     given: Given,
-    beside: Vec<u8>,
+    beside: Beside,
     input: T,
     path: Option<&String>,
 ) -> Result<(), Stop> {
-    let mut kept = Kept::new(rt.alloc());
-    kept.keep(&beside);
+    let kept = KeptBeside::of(rt, &beside);
+    let mut which = Which::Before;
     let input = Input::new(rt.alloc(), input.take(MOST_INPUT));
     let mut input = Ahead::new(rt.alloc(), input);
     let mut output = Counted::new(rt.stdout());
@@ -72,9 +136,11 @@ fn answer<T: Read + Drop>(
         rt.alloc(),
         &watch,
         command,
-        beside,
+        beside.file,
+        beside.pair,
         &mut meter,
         &mut notes,
+        &mut which,
         &mut input,
         &mut output,
     );
@@ -82,7 +148,7 @@ fn answer<T: Read + Drop>(
     meter.wipe();
     let Err(fault) = done else {
         note(rt, &notes);
-        let is_record = input.inner().is_of_record();
+        let is_record = input.inner().is_of_record() && is_of_record_too(command, &kept);
         note(rt, note_of(command, given, is_record).as_bytes());
         note(rt, file_note_of(command, is_record).as_bytes());
         return Ok(());
@@ -91,12 +157,24 @@ fn answer<T: Read + Drop>(
     if let (Fault::Means(Want::Source), Some(path), Some(error)) = (&fault, path, error) {
         return file_stop(rt, path, error, Some(command));
     }
-    let texts = Texts {
-        input,
-        beside: kept,
-    };
+    let texts = kept.texts(command, which, input);
+    let path = path_of(command, which, path);
     let more = explained(rt.alloc(), &fault, command, path, &texts).ok();
     Err(Stop::Fault { fault, more })
+}
+
+// Returns the path of the input that a fault is in, if it comes from a file.
+fn path_of<'a>(command: &'a Command, which: Which, path: Option<&'a String>) -> Option<&'a String> {
+    match (after_of(command), which) {
+        (Some(after), Which::After) if after.as_str() == "-" => None,
+        (Some(after), Which::After) => Some(after),
+        _ => path,
+    }
+}
+
+// Returns whether the input that a command compares its input with is a record too, if it compares two.
+fn is_of_record_too(command: &Command, kept: &KeptBeside) -> bool {
+    after_of(command).is_none() || kept.after.as_slice().starts_with(b"boc")
 }
 
 // Returns the note on words that say how a program is run, and nothing of what the command did; no text where there is nothing to note.
@@ -128,14 +206,13 @@ fn note_of(command: &Command, given: Given, is_record: bool) -> &'static str {
         Command::Cowns { asked, file } if !asked.quiet => {
             idle_note(asked.schedule, file, given, is_record)
         }
-        Command::Outcomes(draws) => {
-            let schedule = Schedule::Drawn {
-                workers: draws.workers,
-                seed: draws.seed,
-                depth: draws.depth,
-            };
-            idle_note(schedule, &None, given, false)
+        Command::Compare { asked, .. } if !asked.quiet => {
+            idle_note(asked.schedule, &None, given, is_record)
         }
+        Command::WhyRuns(asked) | Command::CompareRuns { asked, .. } if !asked.quiet => {
+            idle_note(schedule_of(asked.draws), &None, given, false)
+        }
+        Command::Outcomes(draws) => idle_note(schedule_of(*draws), &None, given, false),
         _ => "",
     }
 }
@@ -180,6 +257,26 @@ fn file_beside(rt: HostRuntime, command: &Command) -> Result<Vec<u8>, Stop> {
         }
         _ => Ok(Vec::new(rt.alloc())),
     }
+}
+
+// Returns the bytes of what a command compares its input with, as many as can matter, and no bytes where it compares nothing.
+fn pair_beside(rt: HostRuntime, command: &Command) -> Result<Pair, Stop> {
+    let mut pair = Pair::none(rt.alloc());
+    if let Some(path) = after_of(command) {
+        pair.after = read_second(rt, path).or_else(|error| file_stop(rt, path, error, None))?;
+    }
+    if let Some(path) = names_of(command, Which::Before) {
+        pair.before_names = names_beside(rt, path)?;
+    }
+    if let Some(path) = names_of(command, Which::After) {
+        pair.after_names = names_beside(rt, path)?;
+    }
+    Ok(pair)
+}
+
+// Returns the bytes of a file of names, as many as can matter.
+fn names_beside(rt: HostRuntime, path: &str) -> Result<Vec<u8>, Stop> {
+    read_beside(&rt, path, Place::Names).or_else(|error| file_stop(rt, path, error, None))
 }
 
 // Returns why not all was done where the words are refused. They are refused as they are printed, since the parser's text has words in it.

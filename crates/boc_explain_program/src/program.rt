@@ -50,7 +50,7 @@ fn put_record(said: &mut Said, place: Place<'_>) -> Told {
         return put_pair(said, place, true);
     }
     let words =
-        "this looks like a record; {} reads programs: check, profile, whatif, curve, sweep, why and cowns read records";
+        "this looks like a record; {} reads programs: check, profile, whatif, curve, sweep, why, cowns and compare read records";
     said.tell(words, &[Words(place.command)])
 }
 

@@ -41,3 +41,13 @@ pub fn read_beside<R: Files + AllocGlobal>(
         .read_to_end(&mut bytes)?;
     Ok(bytes)
 }
+
+/// Returns the bytes of a second input, as many as can matter: of the file with this path, or of standard input where it is `-`.
+pub fn read_second(rt: HostRuntime, path: &str) -> io::Result<Vec<u8>> {
+    if path != "-" {
+        return read_beside(&rt, path, Beside::Record);
+    }
+    let mut bytes = Vec::new(rt.alloc());
+    rt.stdin().take(MOST_INPUT).read_to_end(&mut bytes)?;
+    Ok(bytes)
+}

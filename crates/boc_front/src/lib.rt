@@ -12,11 +12,11 @@ mod stop;
 mod watch;
 mod words;
 
-pub use beside::{MOST_INPUT, read_beside};
+pub use beside::{MOST_INPUT, read_beside, read_second};
 pub use explaining::{Sources, drawn_at_depth, explain_input};
 pub use given::{Given, idle_file_note, idle_note, idle_note_beside};
 pub use meter::Meter;
-pub use printing::printed_words;
+pub use printing::{printed, printed_words};
 pub use stop::{Stop, ended};
 pub use watch::Watch;
 pub use words::words_given;

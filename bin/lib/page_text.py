@@ -11,8 +11,8 @@ MADE = "crates/boc_pictures/src/page_frame.rt"
 MOST_BYTES, MOST_LINES = 160, 1_400
 
 # The marks in the page's frame at which something is put in, and the constant that ends there. The last one has all after the data.
-ENDS = {"title": "BEFORE_TITLE", "head": "BEFORE_HEAD", "answer": "BEFORE_ANSWER", "plan": "BEFORE_PLAN", "tables": "BEFORE_TABLES",
-        "curve": "BEFORE_CURVE", "program": "BEFORE_PROGRAM", "data": "BEFORE_DATA"}
+ENDS = {"title": "BEFORE_TITLE", "head": "BEFORE_HEAD", "answer": "BEFORE_ANSWER", "runs": "BEFORE_RUNS", "plan": "BEFORE_PLAN",
+        "tables": "BEFORE_TABLES", "curve": "BEFORE_CURVE", "program": "BEFORE_PROGRAM", "data": "BEFORE_DATA"}
 LAST = "AFTER_DATA"
 
 # What a script may not do: read a text as markup or as a program, ask a server, or draw what was named in the run.

@@ -6,9 +6,10 @@ use crate::page_answer::{Sentences, put_answer};
 use crate::page_curve::put_curve;
 use crate::page_frame::{
     AFTER_DATA, BEFORE_ANSWER, BEFORE_CURVE, BEFORE_DATA, BEFORE_HEAD, BEFORE_PLAN, BEFORE_PROGRAM,
-    BEFORE_TABLES, BEFORE_TITLE,
+    BEFORE_RUNS, BEFORE_TABLES, BEFORE_TITLE,
 };
 use crate::page_program::put_program;
+use crate::page_runs::{DrawnRuns, put_runs};
 use crate::page_tables::put_tables;
 use crate::subject::Subject;
 use boc_cowns_report::JudgedCown;
@@ -41,6 +42,8 @@ pub struct Page<'a> {
     /// The text of the program; nothing where the run is a record's.
     pub program: &'a [u8],
     pub lines: &'a [LineTicks],
+    /// The runs that seeds draw, where the page shows some.
+    pub runs: Option<DrawnRuns<'a>>,
     /// The data block.
     pub data: &'a [u8],
 }
@@ -101,6 +104,8 @@ pub fn page_text(alloc: Global, page: &Page<'_>) -> Result<Vec<u8>, AllocError> 
     put_heading(&mut text, page)?;
     put(&mut text, BEFORE_ANSWER)?;
     put_answer(alloc, &mut text, page)?;
+    put(&mut text, BEFORE_RUNS)?;
+    put_runs(&mut text, page)?;
     put(&mut text, BEFORE_PLAN)?;
     put_lines(&mut text, page.plan)?;
     put(&mut text, BEFORE_TABLES)?;

@@ -266,8 +266,11 @@ pub(crate) const BEFORE_ANSWER: &str = r#"</header>
 <section id="answer" aria-label="What holds this run back">
 "#;
 
+/// What is before the runs.
+pub(crate) const BEFORE_RUNS: &str = r#"</section>"#;
+
 /// What is before the plan.
-pub(crate) const BEFORE_PLAN: &str = r#"</section>
+pub(crate) const BEFORE_PLAN: &str = r#"
 <section id="viewer" aria-labelledby="viewer-title" hidden="">
 <h2 id="viewer-title">The plan</h2>
 <div id="bar" role="toolbar" aria-label="Of the plan"></div>

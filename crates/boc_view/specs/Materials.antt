@@ -1,6 +1,6 @@
 -- What the pictures of a run are made of.
 use Rattle.std.specs.Prelude.{◌≡◌, ◌++◌, ◌-◌, ℕ, zero, suc, Bool, true, false, not, List, [], length, codes, decimal, if◌then◌else◌}
-use Rattle.std.specs.Prelude.{Option, Some, None, Vec}
+use Rattle.std.specs.Prelude.{◌⊎◌, Option, Some, None, Result, Ok, Err, Vec}
 use Rattle.std.specs.Global.{Global}
 use Rattle.boc_program.specs.declared.limits.TheConstants.{MOST_WORKERS}
 use Rattle.boc_runs.specs.declared.rows.Row.{Row}
@@ -22,9 +22,14 @@ use Rattle.boc_plan_commands.specs.CownsAnswers.{AreJudged}
 use Rattle.boc_plan_commands.specs.OrderAnswers.{IsOtherOrder}
 use Rattle.boc_plan_commands.specs.WhyAnswers.{asked_of}
 use Rattle.boc_run_commands.specs.Measured.{IsMeasured, workers_measured}
-use Rattle.boc_run_commands.specs.NamedRuns.{BeginsRecord, HasRun, HasTimes, IsNamedRun}
+use Rattle.boc_run_commands.specs.NamedRuns.{BeginsRecord, HasRun, HasTimes, IsNamedRun, IsOfNamedRun, IsTaken}
+use Rattle.boc_run_commands.specs.declared.fault.Fault.{Fault}
+use Rattle.boc_run_commands.specs.declared.fault.Fault.TheVariants as faults
 use Rattle.boc_run_commands.specs.TimedNotes.{IsNoteFor, workers_compared}
+use Rattle.boc_words.specs.declared.asked.AskedDraws.{AskedDraws}
+use Rattle.boc_words.specs.declared.asked.AskedRuns.{AskedRuns}
 use Rattle.boc_view.specs.Lines.{AreLinesFor}
+use Rattle.boc_view.specs.Runs.{AreRunsShown, IsOfRunsShown}
 use Rattle.boc_view.specs.declared.found.Found.{Found}
 use Rattle.boc_view.specs.declared.answer.TheConstants.{MOST_DRAWN}
 use Rattle.boc_view.specs.declared.wanted.TheConstants.{PAGE_WORKERS}
@@ -75,6 +80,15 @@ workers_for Trace workers = workers
 -- the workers whose greedy plan is shown, if any
 abbrev pub workers_shown : Wanted → Option ℕ
 workers_shown wanted = workers_for wanted.picture wanted.workers
+
+-- the runs that seeds draw of the program, if any are shown: judged for the workers that a page is for, and with the sharing that it has
+abbrev pub runs_of_draws : Option AskedDraws → ℕ → Sharing → Option AskedRuns
+runs_of_draws None workers sharing = None
+runs_of_draws (Some draws) workers sharing = Some (record { draws = draws; workers = Some workers; sharing = sharing; quiet = false })
+
+-- those that are wanted
+abbrev pub runs_shown : Wanted → Option AskedRuns
+runs_shown wanted = runs_of_draws wanted.runs (page_workers wanted.workers) wanted.sharing
 
 -- the most workers of a curve: as many as are asked for, and 64 where no number is given
 abbrev pub most_of : Option ℕ → ℕ
@@ -153,8 +167,8 @@ pub record HasParts (wanted : Wanted) (run : NamedRun) (material : Material) : T
   pub found : IsPart (shows_costs wanted.picture) (IsFound run.rows run.names wanted.sharing (page_workers wanted.workers)) material.found
 
 -- What the picture that is wanted is made of: the run that the input tells of, as the words say it is run, with the file beside it; what is made of its
--- rows, as they are or with typical ticks; the text of the program, and the ticks of its lines; and the note on the span of the timed run with which it is
--- compared, if it is.
+-- rows, as they are or with typical ticks; the text of the program, and the ticks of its lines; what runs of the program say that seeds draw, if they are
+-- asked for; and the note on the span of the timed run with which it is compared, if it is.
 pub record IsMaterial (wanted : Wanted) (file input : List ℕ) (material : Material) : Type 0 where
   pub run : NamedRun
   pub has : HasRun (IsNamedRun wanted.schedule wanted.file file input) run
@@ -164,5 +178,20 @@ pub record IsMaterial (wanted : Wanted) (file input : List ℕ) (material : Mate
   pub parts : HasParts wanted measured material
   pub program : IsProgramShown (shows_costs wanted.picture) input material.program.items
   pub lines : AreLinesFor material.program.items measured.rows material.found material.lines.items
+  pub runs : AreRunsShown (runs_shown wanted) input material.runs
   pub note : IsNoteFor input (workers_compared wanted.schedule (workers_measured wanted.typical (workers_shown wanted)) wanted.file) wanted.sharing run.rows
       material.note.items
+
+-- ---- what is refused
+
+-- a fault of the runs that are asked for, or of the run that the input tells of and of the file beside it
+abbrev pub IsOfPicture : Type 0 → Wanted → List ℕ → List ℕ → Fault → Type 0
+IsOfPicture always_on wanted file input fault =
+    IsOfRunsShown (runs_shown wanted) input fault ⊎ IsOfNamedRun always_on wanted.schedule wanted.file file input fault
+
+-- an input is refused, for what was taken of it and the file beside it; want of memory and of a device are no refusal
+abbrev pub RefusesPicture : {A : Type 0} → Type 0 → Wanted → List ℕ → Result A Fault → Option (List ℕ) → Option (List ℕ) → Type 0
+RefusesPicture always_on wanted file (Ok done) before after = Unit {0}
+RefusesPicture always_on wanted file (Err (faults.Means w)) before after = Unit {0}
+RefusesPicture always_on wanted file (Err fault) before after =
+    (input : List ℕ) × IsTaken before after input × IsOfPicture always_on wanted file input fault

@@ -2,8 +2,7 @@
 
 ghost use Rattle.std.specs.Prelude.{◌≡◌, ◌++◌, ◌<◌, length, IfOk, OnOk};
 ghost use Rattle.boc_run_commands.specs.Commands.{CountsSource};
-ghost use Rattle.boc_run_commands.specs.NamedRuns.{RefusesNamedRun};
-ghost use Rattle.boc_view.specs.Materials.{over_text, size_note};
+ghost use Rattle.boc_view.specs.Materials.{RefusesPicture, over_text, size_note};
 
 use crate::material::{Material, material_of};
 use crate::page::{page_of, run_text, title_of};
@@ -34,7 +33,7 @@ pub(crate) struct Shown {
 /// Returns the picture of the run that an input reports on, in the given number of columns where it is a text, and the note on it. The file given with the
 /// input, if there is one, has these bytes.
 ///
-/// An input and a file are refused as `boc why` refuses them. `watch` sees the threads of a run, and `progress` receives how far a draw or the following of a
+/// An input and a file are refused as `boc why` refuses them, and an input as `boc why --runs` does where runs are asked for. `watch` sees the threads of a run, and `progress` receives how far a draw or the following of a
 /// record is.
 pub(crate) fn pictured<R: Threads + Wait + Sync, S: Source>(
     rt: &R,
@@ -47,7 +46,7 @@ pub(crate) fn pictured<R: Threads + Wait + Sync, S: Source>(
     source: &mut S,
 ) -> Result<Shown, Fault>
     requires { S.failures source.old < u64.MAX }
-    ensures refused { RefusesNamedRun (Unit {0}) wanted.now.schedule wanted.now.file beside.items result (S.remaining source.old) (S.remaining source.new) }
+    ensures refused { RefusesPicture (Unit {0}) wanted.now beside.items result (S.remaining source.old) (S.remaining source.new) }
     ensures source { CountsSource result (S.failures source.old) (S.failures source.new) }
 {
     let text = taken(alloc, source)?;

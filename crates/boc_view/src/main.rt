@@ -9,6 +9,8 @@ mod found;
 mod lines;
 mod material;
 mod page;
+mod runs;
+mod runs_words;
 mod wanted;
 mod words;
 

@@ -3,13 +3,14 @@
 ghost use Rattle.std.specs.Prelude.{◌≡◌, true, IfOk, MatchResult};
 ghost use Rattle.boc_plans.specs.Seen.{seen};
 ghost use Rattle.boc_greedy.specs.Curves.{IsCurve};
-ghost use Rattle.boc_run_commands.specs.NamedRuns.{AreFew, IsOfNamedRun, IsShort};
+ghost use Rattle.boc_run_commands.specs.NamedRuns.{AreFew, IsShort};
 ghost use Rattle.boc_view.specs.Lines.{AreLinesFor};
-ghost use Rattle.boc_view.specs.Materials.{HasParts, IsFound, IsMaterial, IsPart, IsPlanFor, IsProgramShown};
+ghost use Rattle.boc_view.specs.Materials.{HasParts, IsFound, IsMaterial, IsOfPicture, IsPart, IsPlanFor, IsProgramShown};
 ghost use Rattle.boc_view.specs.Materials.{curve_workers, page_workers, shows_costs, shows_curve};
 
 use crate::found::{Found, found_of};
 use crate::lines::lines_of;
+use crate::runs::{RunsShown, runs_for};
 use crate::wanted::{Picture, Wanted};
 use boc_busy::TimedRows;
 use boc_commands::{Fault, NamedRun, Origin};
@@ -44,16 +45,18 @@ pub(crate) struct Material {
     pub found: Option<Found>,
     /// The ticks of the lines of the program that take some, where the picture shows the program.
     pub lines: Vec<LineTicks>,
+    /// What a page shows of runs that seeds draw, where they are asked for.
+    pub runs: Option<RunsShown>,
     /// The text of the program; no bytes where it isn't shown, or where the input is a record.
     pub program: Vec<u8>,
     /// The note that the timed run with which the run is compared has another span; no bytes where there is nothing to note.
     pub note: Vec<u8>,
 }
 
-/// Returns what the picture that is wanted is made of: the run that a text reports on, and what its rows take, with their own ticks or typical ones. The text
-/// is that of a program or of a record, and the bytes are those of the file given with it, if there is one. A refusal is that of `named_run`, or memory was
-/// refused.
-#[tactic(auto, using(crate::proofs::Refused::memory_wanting))]
+/// Returns what the picture that is wanted is made of: the run of a program or of a record, with the bytes of the file given with it, if there is one. Its rows
+/// have their own ticks or typical ones. Where runs that seeds draw are asked for, it has these too. A refusal is that of `runs_for` or of `named_run`, or
+/// memory was refused.
+#[tactic(auto, using(crate::proofs::Refused::of_memory, crate::proofs::Refused::of_run, crate::proofs::Refused::of_runs))]
 pub(crate) fn material_of<R: Threads + Wait + Sync, G: Gate>(
     rt: &R,
     alloc: Global,
@@ -65,11 +68,12 @@ pub(crate) fn material_of<R: Threads + Wait + Sync, G: Gate>(
 ) -> Result<Material, Fault>
     ensures { MatchResult result
         (λ material. IsMaterial wanted.now beside.items text.items material × IsShort text.items)
-        (IsOfNamedRun G.always_on wanted.now.schedule wanted.now.file beside.items text.items) }
+        (IsOfPicture G.always_on wanted.now beside.items text.items) }
 {
     let program = program_shown(alloc, wanted.picture, &text)?;
     let workers = workers_measured(wanted.typical, wanted.workers_shown());
     let other = other_run(alloc, wanted.schedule, workers, &wanted.file, &text)?;
+    let runs = runs_for(rt, alloc, wanted.runs_shown(), &text, progress)?;
     let origin = Origin {
         schedule: wanted.schedule,
         file: &wanted.file,
@@ -78,17 +82,18 @@ pub(crate) fn material_of<R: Threads + Wait + Sync, G: Gate>(
     let run = named_run(rt, alloc, text, origin, gate, progress)?;
     let note = timed_note_on(alloc, &other, wanted.sharing, &run.rows, progress)?;
     let measured = measured_run(alloc, wanted.typical, run)?;
-    let material = parts_of(rt, alloc, wanted, measured, program, note, progress)?;
+    let material = parts_of(rt, alloc, wanted, measured, program, runs, note, progress)?;
     Ok(material)
 }
 
-// Returns what a picture is made of, of this run, with this text of a program and this note.
+// Returns what a picture is made of, of this run, with this text of a program, these runs that seeds draw, and this note.
 fn parts_of<R: Threads + Sync>(
     rt: &R,
     alloc: Global,
     wanted: &Wanted,
     run: NamedRun,
     program: Vec<u8>,
+    runs: Option<RunsShown>,
     note: Vec<u8>,
     progress: &mut dyn Progress,
 ) -> Result<Material, AllocError>
@@ -96,6 +101,7 @@ fn parts_of<R: Threads + Sync>(
     ensures parts { IfOk result (HasParts wanted.now run) }
     ensures program { IfOk result (λ material. material.program.items ≡ program.items) }
     ensures lines { IfOk result (λ material. AreLinesFor program.items run.rows material.found material.lines.items) }
+    ensures runs { IfOk result (λ material. material.runs ≡ runs) }
     ensures note { IfOk result (λ material. material.note.items ≡ note.items) }
 {
     let NamedRun { rows, names, times } = run;
@@ -116,6 +122,7 @@ fn parts_of<R: Threads + Sync>(
         points,
         found,
         lines,
+        runs,
         program,
         note,
     })

@@ -2,6 +2,7 @@
 
 use crate::found::Found;
 use crate::material::Material;
+use crate::runs::drawn_runs;
 use crate::wanted::Wanted;
 use boc_advice_report::{ForWorkers, put_other_order};
 use boc_commands::{RunFile, Schedule};
@@ -75,6 +76,7 @@ fn made(
     };
     let data = data_block(alloc, &block)?;
     let plan = plan_text(alloc, subject, COLUMNS)?;
+    let word = end_word(alloc, greedy.p)?;
     let page = Page {
         subject,
         title: block.title,
@@ -89,9 +91,17 @@ fn made(
         plan: plan.as_bytes(),
         program,
         lines: &material.lines,
+        runs: drawn_runs(&material.runs, &word, greedy.ends_at),
         data: &data,
     };
     page_text(alloc, &page)
+}
+
+// Returns what the ends of runs are called by which they are judged for these workers.
+fn end_word(alloc: Global, workers: u32) -> Result<Vec<u8>, AllocError> {
+    let mut text = Vec::from_slice(alloc, b"end for ")?;
+    put_workers(&mut text, workers)?;
+    Ok(text)
 }
 
 // Returns what boc says of a run, a line each.

@@ -1,13 +1,14 @@
 // What is requested.
 
 ghost use Rattle.std.specs.Prelude.{◌≡◌};
-ghost use Rattle.boc_view.specs.Materials.{curve_workers, page_workers, shows_costs, shows_curve, shows_workers, workers_shown};
+ghost use Rattle.boc_view.specs.Materials.{curve_workers, page_workers, runs_shown, shows_costs, shows_curve, shows_workers, workers_shown};
 
 use boc_commands::{RunFile, Schedule};
 use boc_front::Given;
 use boc_plans::sharing::Sharing;
 use boc_program::count::Workers;
 use boc_program::limits::MOST_WORKERS;
+use boc_words::{AskedDraws, AskedRuns};
 
 // For how many workers a page is, where no number is given.
 const PAGE_WORKERS: u32 = 4;
@@ -83,6 +84,8 @@ pub(crate) struct Wanted {
     pub sharing: Sharing,
     /// Whether each row has the ticks that are typical of its def.
     pub typical: bool,
+    /// The runs that seeds draw of the program and a page shows, if any.
+    pub runs: Option<AskedDraws>,
     /// The path of the file that the input is in, where it isn't standard input.
     pub input: Option<String>,
     /// The file given with the input.
@@ -110,6 +113,21 @@ impl Wanted {
         match self.workers {
             Some(workers) => workers,
             None => Workers::new(PAGE_WORKERS).unwrap(),
+        }
+    }
+
+    /// Returns the runs that a page shows and seeds draw, if any: judged for the workers that the page is for.
+    pub(crate) fn runs_shown(&self) -> Option<AskedRuns>
+        ensures { result ≡ runs_shown self.now }
+    {
+        match self.runs {
+            Some(draws) => Some(AskedRuns {
+                draws,
+                workers: Some(self.page_workers()),
+                sharing: self.sharing,
+                quiet: false,
+            }),
+            None => None,
         }
     }
 

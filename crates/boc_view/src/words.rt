@@ -1,5 +1,6 @@
 // The words of the command line.
 
+use crate::runs_words::{MOST_RUNS, RUNS, is_asked, of_one_run, runs_asked, workers_of_run};
 use crate::wanted::{Picture, Wanted};
 use boc_commands::{Fault, RunFile, Runners, Schedule, VERSION, WordsFault};
 use boc_front::Given;
@@ -36,12 +37,19 @@ ticks add up to the span.
   page   Says what holds the run back with P workers, 4 if --p is missing, and
          what would help, as boc why and boc cowns do. Shows the plans, to zoom
          into, search and edit, with tables, the curve and the program.
+With --runs K a page also has what boc why --runs K -p P prints of K runs of a
+program, and a histogram of their ends for P. Their seeds are S, S + 1 .. (0, 1
+.. if not given), and they have N workers (4 if not given). The rest of the page
+is of one run: with --seed of the first of these, else of that of N threads (1
+if not given). Input that is a record is refused then, as are --record, --names,
+--timed and --typical; --depth needs no --seed.
 With --timed, text, plan, page and trace add which worker runs what, and when;
 `text --curve` doesn't. If --p shows a plan, without -w above 1, --seed, --timed
 and --record, a note on standard error says if the timed run on P workers, at
 most 16, has another span.
-With --typical each row has the typical ticks of its def, as in boc help why. As
-these rows never ran, nothing is shown or noted of a timed run.
+With --typical each row has the typical ticks of its def, as in boc help why. No
+row ran in these ticks, so the picture leaves out when a timed run ran it, and
+no note compares a timed run.
 
 Exit statuses, as those of boc:
   0  Success
@@ -88,22 +96,16 @@ fn parser<'a>(alloc: Global) -> Result<Command<'a>, AllocError> {
         .subcommand_required(true)
         .arg_required_else_help(true)
         .bin_name("boc-view")?;
+    let curve = Command::new(alloc, "curve").about("Draw the speedup by number of workers as SVG");
+    let trace = Command::new(alloc, "trace").about(
+        "Write the plans as a JSON trace, for trace viewers",
+    );
     parser = parser
         .subcommand(text_command(alloc)?)?
-        .subcommand(plan_command(alloc)?)?;
-    for (name, about) in [
-        ("curve", "Draw the speedup by number of workers as SVG"),
-        (
-            "page",
-            "Write a page with plan, curve, chain, costs and program",
-        ),
-        (
-            "trace",
-            "Write the plans as a JSON trace, for trace viewers",
-        ),
-    ] {
-        parser = parser.subcommand(with_common(alloc, Command::new(alloc, name).about(about))?)?;
-    }
+        .subcommand(plan_command(alloc)?)?
+        .subcommand(with_common(alloc, curve)?)?
+        .subcommand(page_command(alloc)?)?
+        .subcommand(with_common(alloc, trace)?)?;
     Ok(parser)
 }
 
@@ -139,6 +141,20 @@ fn plan_command<'a>(alloc: Global) -> Result<Command<'a>, AllocError> {
             alloc,
             "cowns",
             "Also draw which rows hold each cown, and how many wait",
+        ))?;
+    with_common(alloc, command)
+}
+
+// Returns the command that writes a page.
+fn page_command<'a>(alloc: Global) -> Result<Command<'a>, AllocError> {
+    let command = Command::new(alloc, "page")
+        .about("Write a page with plan, curve, chain, costs and program")
+        .arg(number(
+            alloc,
+            RUNS,
+            "K",
+            MOST_RUNS,
+            "Also show K drawn runs of a program, 1 to 1,000,000",
         ))?;
     with_common(alloc, command)
 }
@@ -252,12 +268,15 @@ fn asked_of(alloc: Global, matches: &ArgMatches) -> Result<Asked, Fault> {
             curve: is_set(matches, "curve"),
         },
     };
-    let runners = number_at(matches, "workers");
+    if let Some(text) = of_one_run(matches) {
+        return refused(alloc, ErrorKind::ArgumentConflict, text);
+    }
+    let runners = workers_of_run(matches);
     let seed = seed_at(matches);
     let depth = number_at(matches, "depth");
     let workers = number_at(matches, "p").and_then(|number| Workers::new(number));
     let is_timed = is_set(matches, "timed");
-    if depth.is_some() && seed.is_none() {
+    if depth.is_some() && seed.is_none() && !is_asked(matches) {
         return refused(
             alloc,
             ErrorKind::ArgumentConflict,
@@ -293,7 +312,7 @@ fn asked_of(alloc: Global, matches: &ArgMatches) -> Result<Asked, Fault> {
             schedule_of(runners, seed, depth)
         },
         given: Given {
-            workers: runners.is_some(),
+            workers: number_at(matches, "workers").is_some(),
             seed: seed.is_some(),
             depth: depth.is_some(),
         },
@@ -304,6 +323,7 @@ fn asked_of(alloc: Global, matches: &ArgMatches) -> Result<Asked, Fault> {
             Sharing::Exclusive
         },
         typical: is_set(matches, "typical"),
+        runs: runs_asked(matches),
         file,
         input: input_at(alloc, matches)?,
         width: number_at(matches, "width"),
@@ -345,18 +365,18 @@ fn schedule_of(workers: Option<u32>, seed: Option<u64>, depth: Option<u32>) -> S
     }
 }
 
-// Returns whether a flag is given.
-fn is_set(matches: &ArgMatches, id: &str) -> bool {
+/// Returns whether a flag is given.
+pub(crate) fn is_set(matches: &ArgMatches, id: &str) -> bool {
     matches.get_str(id) == Some("true")
 }
 
-// Returns the number that is given for an option.
-fn number_at(matches: &ArgMatches, id: &str) -> Option<u32> {
+/// Returns the number that is given for an option.
+pub(crate) fn number_at(matches: &ArgMatches, id: &str) -> Option<u32> {
     matches.get_str(id)?.parse::<u32>().ok()
 }
 
-// Returns the seed that is given.
-fn seed_at(matches: &ArgMatches) -> Option<u64> {
+/// Returns the seed that is given.
+pub(crate) fn seed_at(matches: &ArgMatches) -> Option<u64> {
     matches.get_str("seed")?.parse::<u64>().ok()
 }
 

@@ -8,7 +8,7 @@ _boc_view_options() {
     text) echo -h --help --cowns --curve --width -w --workers --seed --depth --timed -p --p --shared-reads --typical --record --names ;;
     plan) echo -h --help --cowns -w --workers --seed --depth --timed -p --p --shared-reads --typical --record --names ;;
     curve) echo -h --help -w --workers --seed --depth --timed -p --p --shared-reads --typical --record --names ;;
-    page) echo -h --help -w --workers --seed --depth --timed -p --p --shared-reads --typical --record --names ;;
+    page) echo -h --help -w --workers --seed --depth --timed -p --p --shared-reads --typical --record --names --runs ;;
     trace) echo -h --help -w --workers --seed --depth --timed -p --p --shared-reads --typical --record --names ;;
     esac
 }
@@ -44,7 +44,7 @@ _boc_view() {
     if [[ $are_options ]]; then
         case $option in
         --record | --names) _boc_view_files "$current" && return ;;
-        --width | -w | --workers | --seed | --depth | -p | --p) return ;;
+        --width | -w | --workers | --seed | --depth | --runs | -p | --p) return ;;
         esac
     fi
     if [[ $current == -* && $are_options ]]; then

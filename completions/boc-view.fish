@@ -39,6 +39,7 @@ complete -c boc-view -n '__boc_view_is text' -l width -x -d 'Use 40 to 1000 colu
 complete -c boc-view -n '__boc_view_is text plan curve page trace' -s w -l workers -x -d 'Run the program on N threads, 1 to 16 [default: 1]'
 complete -c boc-view -n '__boc_view_is text plan curve page trace' -l seed -x -d 'Draw a random run from seed S; give -w of 2 or more'
 complete -c boc-view -n '__boc_view_is text plan curve page trace' -l depth -x -d 'With --seed, use random priorities of depth D, 1 to 16'
+complete -c boc-view -n '__boc_view_is page' -l runs -x -d 'Also show K drawn runs of a program, 1 to 1,000,000'
 complete -c boc-view -n '__boc_view_is text plan curve page trace' -l timed -d 'Simulate workers by ticks: -w, else P up to 16, else 16'
 complete -c boc-view -n '__boc_view_is text plan curve page trace' -s p -l p -x -d 'Show greedy plans for P workers, or up to P, 1 to 64'
 complete -c boc-view -n '__boc_view_is text plan curve page trace' -l shared-reads -d 'Plan as if rows that only read a cown shared it'

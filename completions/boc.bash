@@ -13,8 +13,9 @@ _boc_options() {
     whatif) echo -h --help --without --early -w --workers --seed --depth --timed --record --program --names -p --p --shared-reads --typical --short --no-plan ;;
     curve) echo -h --help -w --workers --seed --depth --timed --record -p --p --shared-reads --typical ;;
     sweep) echo -h --help --cowns -w --workers --seed --depth --timed --record --names -p --p --shared-reads --typical --best --spawns ;;
-    why) echo -h --help -w --workers --seed --depth --timed --record --names -p --p --shared-reads --typical --all --then --quiet ;;
+    why) echo -h --help -w --workers --seed --depth --timed --record --names -p --p --shared-reads --typical --all --then --quiet --runs ;;
     cowns) echo -h --help -w --workers --seed --depth --timed --record --names -p --p --top --shared-reads --typical --quiet ;;
+    compare) echo -h --help -w --workers --seed --depth --timed --names --names-a --names-b -p --p --shared-reads --typical --quiet --runs ;;
     outcomes) echo -h --help --runs --seed -w --workers --depth ;;
     esac
 }
@@ -29,7 +30,7 @@ _boc_words() {
 }
 
 _boc() {
-    local commands='values check run profile time whatif curve sweep why cowns outcomes help'
+    local commands='values check run profile time whatif curve sweep why cowns compare outcomes help'
     local current=${COMP_WORDS[COMP_CWORD]} option=${COMP_WORDS[COMP_CWORD - 1]} command='' are_options=yes at
     COMPREPLY=()
     for ((at = 1; at < COMP_CWORD; at++)); do
@@ -49,7 +50,7 @@ _boc() {
     fi
     if [[ $are_options ]]; then
         case $option in
-        --record | --program | --names) _boc_files "$current" && return ;;
+        --record | --program | --names | --names-a | --names-b) _boc_files "$current" && return ;;
         -w | --workers | --seed | --depth | --runs | -p | --p | --without | --early | --best | --top | --then) return ;;
         esac
     fi

@@ -259,8 +259,8 @@ def zsh_specs(program, command, indent=" " * 12):
     specs = [zsh_option(command, it) for it in command.offered]
     if "EDIT" in command.operands:
         specs.append("'*:file or edit:_files'")
-    elif command.operands:
-        specs.append({"FILE": "':file:_files'", "COMMAND": f"':command:_{program.called}_commands'"}[command.operands[0]])
+    else:
+        specs += [f"':command:_{program.called}_commands'" if it == "COMMAND" else f"':{it.lower()}:_files'" for it in command.operands]
     return " \\\n".join(indent + it for it in specs)
 
 
@@ -289,7 +289,7 @@ def fish(program):
         for names, option in grouped((option, it.name) for it in program.commands for option in it.options if option.name == name):
             options.append(fish_option(program, f"'{is_one} {' '.join(names)}'", option))
     return FISH.substitute(called=program.called, function=program.function, source=FROM, commands="\n".join(lines),
-                           with_file=" ".join(it.name for it in program.commands if "FILE" in it.operands), options="\n".join(options))
+                           with_file=" ".join(it.name for it in program.commands if {"FILE", "BEFORE"} & set(it.operands)), options="\n".join(options))
 
 
 def fish_option(program, condition, option):

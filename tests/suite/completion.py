@@ -77,7 +77,7 @@ def helps_of(program):
 def help_in(text):
     said = [pages.Option(*(it or "" for it in found.groups())) for found in map(HELP_OPTION.match, section(text, "Options")) if found]
     usage = re.search(r"^Usage: (.*)$", text, re.MULTILINE).group(1)
-    words = {word for found in re.findall(r"\[([^\]]*)\]", usage) for word in found.split("|")}
+    words = {word for found in re.findall(r"\[([^\]]*)\]", usage) for word in found.split("|")} | set(re.findall(r"<(BEFORE|AFTER)>", usage))
     return Help(text.partition("\n")[0], said, words - {"OPTIONS"})
 
 
@@ -101,7 +101,7 @@ def plain(option):
 def fault_of_excluded(program, command):
     """Two options that no usage has together are refused together, and no others."""
     for one, other in itertools.combinations([it for it in command.options if it.name not in pages.ALONE], 2):
-        words = [command.name, *given(one), *given(other)]
+        words = [command.name, *given(one), *given(other), *("a.boc" for it in command.operands if it in ("BEFORE", "AFTER"))]
         is_refused = b"cannot be used with '" in program.run(words).errors
         if is_refused != (other in command.excluded(one)):
             return f"{words} are {'' if is_refused else 'not '}refused"

@@ -11,12 +11,15 @@ import threading
 import time
 
 from . import model
+from .copies import TOP
 from .records import TRANSFER, fan, fan_text, lines_text
 from .running import DEVICE, Answer, done, fault_of, refused
 from .worked import GREEDY, PROFILE
 
 # The commands that read a program, and those that read a record.
-OF_PROGRAMS = [["values"], ["run"], ["time"], ["time", "--workers", "4", "--p", "2"], ["why"], ["cowns"]]
+OTHER = os.path.join(TOP, "examples", "race.boc")
+OF_PROGRAMS = [["values"], ["run"], ["time"], ["time", "--workers", "4", "--p", "2"], ["why"], ["cowns"], ["why", "--runs", "3"], ["compare", "-", OTHER],
+               ["compare", "--runs", "3", "-", OTHER]]
 OF_RECORDS = [["check"], ["profile"], ["profile", "--p", "2"], ["whatif"], ["whatif", "--p", "2", "2=1"], ["curve"], ["sweep"],
               ["sweep", "--p", "2"], ["sweep", "--cowns"], ["sweep", "--cowns", "--p", "2"], ["sweep", "--spawns"],
               ["whatif", "--without", "1", "2@3", "2=1/2"], ["why", "--all"], ["cowns", "--top", "1"],

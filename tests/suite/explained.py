@@ -39,7 +39,7 @@ COARSER_TICKS = 'count ticks in a coarser unit in the whole record, such as mill
 PROGRAMS = [
     (b"", "line 1: 3 Unexpected", ["the input is empty; if it comes from a pipe, did the command before it fail?"]),
     (b"boc 2 0\n", "line 1: 3 Unexpected", [
-        "this looks like a record; values reads programs: check, profile, whatif, curve, sweep, why and cowns read records"]),
+        "this looks like a record; values reads programs: check, profile, whatif, curve, sweep, why, cowns and compare read records"]),
     (b"main {\n\tlet a = 1; # \xc3\xa9\n}\n", "line 2: 1 NotAscii", [
         " let a = 1; # ??",
         "              ^",
@@ -1219,7 +1219,7 @@ PLACES = [
     ("values", b"@ 0 store\n= 1 put 4\n", "line 1: 2 BadToken", (1, 1), [
         "this looks like a names file; pass it with --names, and a program or a record as FILE"]),
     ("values", lines_text(TRANSFER), "line 14: 2 BadToken", (14, 1), [
-        "this looks like a record; values reads programs: check, profile, whatif, curve, sweep, why and cowns read records"]),
+        "this looks like a record; values reads programs: check, profile, whatif, curve, sweep, why, cowns and compare read records"]),
     ("check", b"", "line 1: 11 Truncated", (1, 1), ["the file is empty"]),
     ("check", b"# A bank.\ncown a = 0;\n", "line 1: 1 Header", (1, 1), ["this looks like a program; check reads records: boc run FILE | boc check"]),
     ("check", lines_text(MAIN_RUNS + ["< 0 4 -1"]), "line 4: 2 Form", (4, 7), ["`< 0 4 -1`: `-1` is negative; numbers are plain decimals"]),
@@ -1494,10 +1494,14 @@ def nearest_commands(program):
 
 
 def values_are_no_files(program):
-    """Whatever option with a value stands in front of two files, it is these that are told, and not its value."""
+    """Whatever option with a value stands in front of two files, it is these that are told, and not its value; `compare` reads two, and says that there is none."""
     for command, said in helps_of(program).items():
         for option, takes in said.options.items():
-            if takes and command:
+            if takes and command == "compare" and option != "--depth":
+                run = program.run([command, option, "2", "a.boc", "b.boc"])
+                is_told = run.errors.startswith((b"boc: b.boc: ", b"boc: 2: ")) and run.status == 5
+                yield f"{command} {option} 2 and two files", None if is_told else f"{run.status}, {run.errors!r}"
+            elif takes and command and command != "compare":
                 told_files = f"`a.boc` and `b.boc` {ONE_FILE}".encode() in program.run([command, option, "2", "a.boc", "b.boc"]).errors
                 yield f"{command} {option} 2 and two files", None if told_files else "the files are not told"
 

@@ -1,4 +1,5 @@
 """Each request for memory refused in turn: the answer is the want of memory, or the whole right one."""
+import dataclasses
 import functools
 import os
 import shutil
@@ -87,6 +88,9 @@ def runs(program):
     yield ["profile"], FAULTED, done(program.run(["profile", "--quiet"], FAULTED).output, RECORD_NOTED)
     yield ["time", "--workers", "3", "--p", "2"], text, done((PROFILE + GREEDY).encode())
     yield ["time", "--workers", "2"], FULL, program.run(["time"], FULL)
+    other = os.path.join(program.examples, "race.boc")
+    for words in (["why", "--runs", "3"], ["compare", "-", other], ["compare", "--runs", "2", "-p", "2", "-", other]):
+        yield words, text, program.run(words, text)
     yield ["run", "--workers", "2"], b"main { x = 1; }", refused(3, "boc: line 1: 5 UnknownName")
     yield ["whatif", "--p", "2", "2=1"], record, done((SHORTER + SHORTER_GREEDY).encode())
     race, _ = FEW["a race of three"]
@@ -165,7 +169,7 @@ def build(library):
 
 def fault_of_refusals(program, library, words, source, expected):
     """Goes on to the number of the first request that the program doesn't make."""
-    is_run = words[0] in ("why", "cowns") and not source.startswith(b"boc") and "--record" not in words
+    is_run = words[0] in ("why", "cowns", "compare") and not source.startswith(b"boc") and not {"--record", "--runs"} & set(words)
     in_threads = (words[0] in ("run", "time") or is_run) and not {"--seed", "--timed"} & set(words)
     fault_of_whole = functools.partial(fault_of, expected) if expected else functools.partial(fault_of_transfer, program)
     told = []
@@ -174,7 +178,7 @@ def fault_of_refusals(program, library, words, source, expected):
         if not note:
             fault = fault_of_whole(answer)
             return f"with no request refused: {fault}" if fault else fault_of_told(told, in_threads and answer.status == 0)
-        if answer == MEMORY or answer == NO_THREAD and in_threads and note != b"w":
+        if answer == MEMORY or is_no_thread(answer) and in_threads and note != b"w":
             told.append(answer)
         elif fault_of_whole(answer) is not None:
             return f"with request {request} refused: {fault_of(MEMORY, answer)}"
@@ -192,7 +196,12 @@ def fault_of_told(told, has_run):
     """What was never told: that a request was refused, or, where threads ran a program, that one of them was not started."""
     if not told:
         return "no request was told as refused"
-    return "no thread was told as not started" if has_run and NO_THREAD not in told else None
+    return "no thread was told as not started" if has_run and not any(map(is_no_thread, told)) else None
+
+
+def is_no_thread(answer):
+    """Whether a thread was told as not started. `compare` adds a line that names the input."""
+    return dataclasses.replace(answer, errors=answer.errors.partition(b"\n")[0] + b"\n") == NO_THREAD
 
 
 def fault_of_late_start(program, library):

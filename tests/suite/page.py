@@ -263,9 +263,9 @@ class Opened:
             return f"its console says {it['entry']['text'] if 'entry' in it else [said.get('value') for said in it['args']]}"
         return None
 
-    def fault_of_looks(self, source):
+    def fault_of_looks(self, source, words=("-p", "3")):
         """In light and dark, wide and narrow, all of a page fits, can be told from what is behind it, and warns of nothing; so it is on paper."""
-        with self.page(["-p", "3"], source):
+        with self.page(words, source):
             for size, scheme in ((NARROW, "dark"), (NARROW, "light"), (WIDE, "dark"), (WIDE, "light")):
                 self.tab.resize(*size)
                 self.tab.prefer(scheme)

@@ -1,0 +1,4 @@
+pub mod Faults
+pub mod LongLines
+pub mod StreamFields
+pub mod StreamTexts

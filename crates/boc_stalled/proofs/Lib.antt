@@ -1,0 +1,5 @@
+pub mod Sound
+pub mod Judged
+pub mod Least
+pub mod Waiting
+pub mod Marking

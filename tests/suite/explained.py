@@ -31,9 +31,9 @@ FEWER_COWNS_DECLARED = "use one cown for several that are always held together: 
 HANDED_ON = "move some of it to another behaviour: spawn that with `when`; it runs later, over cowns of its own"
 
 # What can be done about a record that is past a limit.
-FEWER_ROWS = 'cut the run where only row 0 is pending or running, and begin a new record there; docs/RECORDING.md, "Limits", has the rules'
-FEWER_COWNS = 'leave out cowns that only one row has, or use one for several, in the program too; docs/RECORDING.md, "Limits", has the rules'
-COARSER_TICKS = 'count ticks in a coarser unit in the whole record, such as milliseconds; docs/RECORDING.md, "Ticks", has the rules'
+FEWER_ROWS = '`boc cut` makes a record of a part of the run; docs/RECORDING.md, "A long run", says how'
+FEWER_COWNS = '`boc cut` keeps the cowns that limit the run; docs/RECORDING.md, "A long run", says how'
+COARSER_TICKS = '`boc cut` divides all ticks; or count larger units, such as milliseconds; docs/RECORDING.md, "Ticks", has the rules'
 
 # Program texts, the line of their fault, and the lines behind it.
 PROGRAMS = [
@@ -857,6 +857,10 @@ MANY = [
 MAIN_RUNS = ["boc 2 2", "+ 0 0 0", "> 0"]
 TWO_ROWS = MAIN_RUNS + ["+ 1 0 5 0", "+ 2 0 6 0 1"]
 
+# How one continues with what a record has that its fault leaves unended: the input, or a file.
+CUT_INPUT = "`boc cut | boc why` of the same input continues with what is there"
+CUT_FILE = "`boc cut FILE | boc why` continues with what is there"
+
 # Texts of records, the line of their fault, and the lines behind it.
 RECORDS = [
     ([], "line 1: 11 Truncated", ["the input is empty; if it comes from a pipe, did the command before it fail?"]),
@@ -938,9 +942,35 @@ RECORDS = [
     (TWO_ROWS + ["> 1", "< 1 2 0 1"], "line 7: 8 EndNotAllowed", ["`< 1 2 0 1`: row 1 doesn't have cown 1"]),
     (MAIN_RUNS + ["+ 1 0 5 0 1", "> 1", "< 1 2 0 1 0"], "line 6: 8 EndNotAllowed",
      ["`< 1 2 0 1 0`: written cowns must rise, each above the one before it"]),
-    (TWO_ROWS + ["> 1", "."], "line 7: 10 Unended", ["1 row not started, the first is row 2", "2 rows started and not ended, the first is row 0"]),
+    (TWO_ROWS + ["> 1", "."], "line 7: 10 Unended", ["1 row not started, the first is row 2", "2 rows started and not ended, the first is row 0", CUT_INPUT]),
     (["boc 2 2", "."], "line 2: 10 Unended", ["no row was spawned yet"]),
-    (MAIN_RUNS, "line 4: 11 Truncated", ["the record ends before the line `.`", "1 row started and not ended, the first is row 0"]),
+    (MAIN_RUNS, "line 4: 11 Truncated", ["the record ends before the line `.`", "1 row started and not ended, the first is row 0", CUT_INPUT]),
+    (MAIN_RUNS + ["< 0 4 0"], "line 5: 11 Truncated", ["the record ends before the line `.`", CUT_INPUT]),
+    (["boc 2 2", "+ 0 0 0"], "line 3: 11 Truncated", ["the record ends before the line `.`", "1 row not started, the first is row 0"]),
+    # No row runs, and some are pending.
+    (["boc 2 2", "+ 0 0 0", "."], "line 3: 10 Unended", [
+        "1 row not started, the first is row 0",
+        "row 0 could start and nothing runs: its wake-up was lost; no row waits for it"]),
+    (TWO_ROWS + ["< 0 9 0", "."], "line 7: 10 Unended", [
+        "2 rows not started, the first is row 1",
+        "row 1 could start and nothing runs: its wake-up was lost; 1 row waits for it", CUT_INPUT]),
+    # Row 2 waits for row 1 over cown 0, and row 3 for row 2 over cown 1: so it waits for row 1 too. Row 4 waits for no row.
+    (TWO_ROWS + ["+ 3 0 7 1", "+ 4 0 8", "< 0 9 0", "."], "line 9: 10 Unended", [
+        "4 rows not started, the first is row 1",
+        "row 1 could start and nothing runs: its wake-up was lost; 2 rows wait for it",
+        "row 4 could start too: its wake-up was lost; no row waits for it", CUT_INPUT]),
+    (MAIN_RUNS + [f"+ {row} 0 {row}" for row in range(1, 5)] + ["< 0 9 0", "."], "line 9: 10 Unended", [
+        "4 rows not started, the first is row 1",
+        "row 1 could start and nothing runs: its wake-up was lost; no row waits for it",
+        "row 2 could start too: its wake-up was lost; no row waits for it",
+        "row 3 could start too: its wake-up was lost; no row waits for it",
+        "1 more row could start: its wake-up was lost", CUT_INPUT]),
+    (MAIN_RUNS + [f"+ {row} 0 {row} {row % 2}" for row in range(1, 5)] + [f"+ {row} 0 {row}" for row in range(5, 9)] + ["< 0 9 0", "."], "line 13: 10 Unended", [
+        "8 rows not started, the first is row 1",
+        "row 1 could start and nothing runs: its wake-up was lost; 1 row waits for it",
+        "row 2 could start too: its wake-up was lost; 1 row waits for it",
+        "row 5 could start too: its wake-up was lost; no row waits for it",
+        "3 more rows could start: their wake-ups were lost", CUT_INPUT]),
     (TRANSFER + ["", "more"], "line 15: 12 After", ["``: nothing can follow the line `.`"]),
     (TRANSFER + ["more"], "line 15: 12 After", ["`more`: nothing can follow the line `.`"]),
     (TRANSFER + TRANSFER, "line 15: 12 After", ["`boc 1 2`: another record begins here; a file has only one"]),
@@ -1164,7 +1194,10 @@ def cases(program):
         source = lines_text(lines) if lines else b""
         yield f"{lines[-2:]}", difference(told(fault, more), program.run(["check"], source))
     cut = lines_text(MAIN_RUNS) + b"< 0 1"
-    expected = told("line 4: 11 Truncated", ["`< 0 1`: the record ends within this line", "1 row started and not ended, the first is row 0"])
+    expected = told("line 4: 11 Truncated", [
+        "`< 0 1`: the record ends within this line",
+        "1 row started and not ended, the first is row 0",
+        "`head -n 3 | boc cut | boc why` of the same input continues with what is there"])
     yield "a cut line", difference(expected, program.run(["check"], cut))
     for words, fault, lines in EDITS:
         yield f"whatif {words}", difference(told(fault, lines), program.run(["whatif", *words], lines_text(TRANSFER)))
@@ -1184,6 +1217,10 @@ def cases(program):
     yield from keywords(program)
     yield from random_edits(program)
     yield from long_records(program)
+    yield from unended_in_files(program)
+    yield from unended_everywhere(program)
+    yield from unended_by_chance(program)
+    yield from long_queues(program)
     yield from replacements(program)
     yield from random_bytes(program)
 
@@ -1231,7 +1268,8 @@ PLACES = [
     ("check", lines_text(TWO_ROWS + ["> 3"]), "line 6: 7 StartNotAllowed", (6, 1), ["`> 3`: row 3 is not spawned yet"]),
     ("check", lines_text(MAIN_RUNS), "line 4: 11 Truncated", (4, 1), [
         "the record ends before the line `.`",
-        "1 row started and not ended, the first is row 0"]),
+        "1 row started and not ended, the first is row 0",
+        CUT_FILE]),
     ("check", lines_text(TRANSFER + ["more"]), "line 15: 12 After", (15, 1), ["`more`: nothing can follow the line `.`"]),
 ]
 
@@ -1245,6 +1283,7 @@ def places(program):
     with tempfile.TemporaryDirectory(prefix="boc-explained-") as folder:
         for command, content, fault, place, lines in PLACES:
             path = written(folder, "text", content)
+            lines = [line.replace("FILE", word_of(path)) if line == CUT_FILE else line for line in lines]
             yield f"{path}: {lines}", difference(told(fault, lines, head_of(path, *place)), program.run([command, path]))
         command, content, fault, place, lines = PLACES[0]
         for name in FILE_NAMES:
@@ -1558,6 +1597,192 @@ def with_lines_of(record, changes):
     return lines_text(line for line in lines if line is not None)
 
 
+# The most bytes of a file's name that is shown in a command, and the bytes of those that are shown without quotes.
+MOST_WORD = 80
+PLAIN = set(string.ascii_letters + string.digits + "._-/+,:@%=")
+
+# The most rows that could start which are listed.
+MOST_STARTS = 3
+
+
+def word_of(path):
+    """A file's name as a word of a command: as it is printed, in quotes if a shell wants them, and FILE where it can't be one."""
+    name = printed(path).decode()
+    if len(name) > MOST_WORD or name.startswith("-") or not set(name) <= PLAIN and set(name) & set("'?"):
+        return "FILE"
+    return name if set(name) <= PLAIN else f"'{name}'"
+
+
+class Left:
+    """What the events of a record leave: a queue for each cown, of the rows that have not ended, in the order of their spawns."""
+
+    def __init__(self, events):
+        self.lives, self.cowns, self.queues = [], [], {}
+        for event in events:
+            row, *numbers = map(int, event[2:].split())
+            if event[0] == "+":
+                self.lives.append("pending")
+                self.cowns.append(numbers[2:])
+                for cown in numbers[2:]:
+                    self.queues.setdefault(cown, []).append(row)
+            elif event[0] == ">":
+                self.lives[row] = "running"
+            else:
+                self.lives[row] = "ended"
+                for cown in self.cowns[row]:
+                    self.queues[cown].remove(row)
+
+    def of(self, life):
+        return [row for row, it in enumerate(self.lives) if it == life]
+
+    def could_start(self):
+        """The pending rows that are the first of each of their cowns' queues."""
+        return [row for row in self.of("pending") if all(self.queues[cown][0] == row for cown in self.cowns[row])]
+
+    def waiting_for(self, first):
+        """The rows that are behind a row in a queue, or behind one of these, and so on."""
+        found, new = set(), [first]
+        while new:
+            row = new.pop()
+            behind = {it for cown in self.cowns[row] for it in self.queues[cown][self.queues[cown].index(row) + 1:]}
+            new += behind - found
+            found |= behind
+        return found
+
+    def lines(self):
+        """What is told of the rows that have not ended."""
+        if not self.lives:
+            return ["no row was spawned yet"]
+        return [f"{count_of(len(rows), 'row')} {come}, the first is row {rows[0]}"
+                for rows, come in ((self.of("pending"), "not started"), (self.of("running"), "started and not ended")) if rows]
+
+    def stalled(self):
+        """What is told of the rows that could start, where none runs."""
+        if self.of("running"):
+            return []
+        rows, lines = self.could_start(), []
+        for row in rows[:MOST_STARTS]:
+            count = len(self.waiting_for(row))
+            waiting = "no row waits" if count == 0 else "1 row waits" if count == 1 else f"{count} rows wait"
+            lines.append(f"row {row} could start{' too' if lines else ' and nothing runs'}: its wake-up was lost; {waiting} for it")
+        more = len(rows) - MOST_STARTS
+        return lines + (["1 more row could start: its wake-up was lost"] if more == 1 else
+                        [f"{more} more rows could start: their wake-ups were lost"] if more > 1 else [])
+
+    def cut(self, word, whole):
+        """How one continues with what is there. Of a line that is cut, the lines before it are whole."""
+        if not self.lives or self.lives[0] == "pending":
+            return []
+        name, same = (f" {word}", "") if word else ("", " of the same input")
+        front = f"boc cut{name}" if whole is None else f"head -n {whole}{name} | boc cut"
+        return [f"`{front} | boc why`{same} continues with what is there"]
+
+
+def count_of(count, name):
+    return f"{count} {name}{'' if count == 1 else 's'}"
+
+
+def unended_lines(lines, word=None):
+    """The line of the fault of a record whose run isn't over at its last line `.`, and the lines below it."""
+    left = Left(lines[1:])
+    return f"line {len(lines) + 1}: 10 Unended", left.lines() + left.stalled() + left.cut(word, None)
+
+
+def truncated_lines(lines, part, word=None):
+    """The same of a record that ends behind these lines, and this part of one more."""
+    left, number = Left(lines[1:]), len(lines) + 1
+    first = f"`{part}`: the record ends within this line" if part else "the record ends before the line `.`"
+    return f"line {number}: 11 Truncated", [first] + left.lines() + left.cut(word, len(lines) if part else None)
+
+
+# Names of files: words, with blanks, with quotes, with bytes that are printed as others, and long ones.
+CUT_NAMES = ["a.record", "-a.record", "a b.record", "a'b.record", "a$b;c.record", "a?.record", "a\x1b[1m.record", "\u00e9.record", "x" * 50, "y" * 90]
+
+
+def unended_in_files(program):
+    """The command that continues has the file's name as a word, and no byte of it comes raw to a terminal."""
+    lines = TWO_ROWS + ["< 0 9 0"]
+    with tempfile.TemporaryDirectory(prefix="boc-explained-") as folder:
+        for name in CUT_NAMES:
+            for content, (fault, more) in ((lines_text(lines + ["."]), unended_lines(lines, word_of(f"{folder}/{name}"))),
+                                           (lines_text(lines), truncated_lines(lines, "", word_of(f"{folder}/{name}"))),
+                                           (lines_text(lines) + b"> 1", truncated_lines(lines, "> 1", word_of(f"{folder}/{name}")))):
+                path = written(folder, name, content)
+                place = int(re.match(r"line (\d+):", fault)[1])
+                answer = program.run(["why", path])
+                yield f"{name!r}, {fault}", difference(told(fault, more, head_of(path, place, 1)), answer)
+                yield f"{name!r}, raw bytes", None if set(answer.errors) <= PRINTABLE else f"{answer.errors!r}"
+
+
+def unended_everywhere(program):
+    """Each command that reads a record tells the same below such a fault, and so does `boc-view`."""
+    lines = TWO_ROWS + ["< 0 9 0"]
+    view = view_of(program)
+    for content, (fault, more) in ((lines_text(lines + ["."]), unended_lines(lines)), (lines_text(lines), truncated_lines(lines, ""))):
+        for command in ("check", "why", "cowns"):
+            yield f"{command}, {fault}", difference(told(fault, more), program.run([command], content))
+        for command in ("text", "page"):
+            yield f"boc-view {command}, {fault}", difference(told(fault, more), view.run([command], content))
+
+
+def stalled_record(chance, record):
+    """The lines of a record, without the last one, of the same run where some rows were never woken: with no event of theirs, and none of what waits for them."""
+    lines = record.decode().splitlines()
+    count = sum(line[0] == "+" for line in lines)
+    lost = set(chance.sample(range(count), chance.randint(1, min(count, 4))))
+    if chance.random() < 0.9:
+        lost.discard(0)
+    kept, numbers, started, cowns, queues = lines[:1], {}, set(), {}, {}
+    for line in lines[1:-1]:
+        sign, (row, *others) = line[0], map(int, line[2:].split())
+        if sign == "+" and (row == 0 or others[0] in started):
+            numbers[row], cowns[row] = len(numbers), others[2:]
+            for cown in others[2:]:
+                queues.setdefault(cown, []).append(row)
+            kept.append(" ".join(map(str, ["+", numbers[row], numbers[others[0]], *others[1:]])))
+        elif sign == ">" and row in numbers and row not in lost and all(queues[cown][0] == row for cown in cowns[row]):
+            started.add(row)
+            kept.append(f"> {numbers[row]}")
+        elif sign == "<" and row in started:
+            for cown in cowns[row]:
+                queues[cown].remove(row)
+            kept.append(" ".join(map(str, ["<", numbers[row], *others])))
+    return kept
+
+
+def unended_by_chance(program):
+    """What is told of runs by chance that stand still, and of records that end anywhere, is what plain queues say."""
+    chance, stalled = random.Random(20261130), 0
+    for number, rows in enumerate(random_records(9, RANDOM)):
+        lines = stalled_record(chance, record_of(rows))
+        left = Left(lines[1:])
+        if left.of("pending"):
+            stalled += len(left.could_start()) > 0
+            fault, more = unended_lines(lines)
+            yield f"a run that stands still {number}", difference(told(fault, more), program.run(["check"], lines_text([*lines, "."])))
+        begin, part = lines[:chance.randint(2, len(lines))], ""
+        if len(begin) < len(lines) and chance.random() < 0.5:
+            part = lines[len(begin)][:chance.randint(1, len(lines[len(begin)]))]
+        fault, more = truncated_lines(begin, part)
+        yield f"a record that ends anywhere {number}", difference(told(fault, more), program.run(["check"], lines_text(begin) + part.encode()))
+    yield "runs that stand still", None if stalled > RANDOM // 2 else f"only {stalled}"
+
+
+def long_queues(program):
+    """As many rows as there may be, of one def over one cown, none of which was woken: told in time, and within the memory."""
+    rows = MOST_ROWS
+    for name, cowns, starts, waiting in (
+            ("one cown", lambda row: " 0", [1], rows - 2),
+            ("eight cowns", lambda row: " 0 1 2 3 4 5 6 7", [1], rows - 2),
+            ("a chain over two cowns each", lambda row: f" {(row - 1) % 255} {(row - 1) % 255 + 1}", [1], rows - 2)):
+        lines = ["boc 2 256", "+ 0 0 0", "> 0", *[f"+ {row} 0 {row}{cowns(row)}" for row in range(1, rows)], f"< 0 {rows} 0"]
+        lines_below = [f"{rows - 1} rows not started, the first is row 1",
+                       f"row {starts[0]} could start and nothing runs: its wake-up was lost; {waiting} rows wait for it", CUT_INPUT]
+        answer, used = measured([program.path, "check"], 20, MOST_ASKED, lines_text([*lines, "."]))
+        expected = told(f"line {len(lines) + 1}: 10 Unended", lines_below)
+        yield f"a long queue, {name}", difference(expected, answer) if used < MOST_MEMORY else f"it used {used} kilobytes"
+
+
 def long_records(program):
     """A fault is told wherever in a record it is, also behind as many bytes as can stand before it."""
     rows = 60000
@@ -1569,7 +1794,7 @@ def long_records(program):
     full = full_record()
     for changed, fault, lines in (([*full[:-2], "> 1"], f"line {len(full) - 1}: 7 StartNotAllowed", ["`> 1`: row 1 has ended already"]),
                                   (full[:-2], f"line {len(full) - 1}: 11 Truncated", ["the record ends before the line `.`",
-                                                                                     "1 row started and not ended, the first is row 65534"]),
+                                                                                     "1 row started and not ended, the first is row 65534", CUT_INPUT]),
                                   ([*full, "more"], f"line {len(full) + 1}: 12 After", ["`more`: nothing can follow the line `.`"])):
         source = lines_text(changed)
         yield f"{fault}, behind {len(source)} bytes", difference(told(fault, lines), program.run(["check"], source))

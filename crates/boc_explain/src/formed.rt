@@ -9,15 +9,15 @@ use std::alloc::AllocError;
 
 /// What can be done about a record with too many rows.
 pub(crate) const FEWER_ROWS: &str =
-    "cut the run where only row 0 is pending or running, and begin a new record there; docs/RECORDING.md, \"Limits\", has the rules";
+    "`boc cut` makes a record of a part of the run; docs/RECORDING.md, \"A long run\", says how";
 
 /// What can be done where it, or one of its rows, has too many cowns.
 pub(crate) const FEWER_COWNS: &str =
-    "leave out cowns that only one row has, or use one for several, in the program too; docs/RECORDING.md, \"Limits\", has the rules";
+    "`boc cut` keeps the cowns that limit the run; docs/RECORDING.md, \"A long run\", says how";
 
 /// What can be done where a row takes too many ticks, or spawns too late.
 pub(crate) const COARSER_TICKS: &str =
-    "count ticks in a coarser unit in the whole record, such as milliseconds; docs/RECORDING.md, \"Ticks\", has the rules";
+    "`boc cut` divides all ticks; or count larger units, such as milliseconds; docs/RECORDING.md, \"Ticks\", has the rules";
 
 // What is printable ASCII in a record.
 const OF_RECORDS: &str = "records are";

@@ -8,6 +8,7 @@ mod command_words;
 mod edit;
 mod formed;
 mod kept;
+mod left;
 mod missing;
 mod names;
 mod record;

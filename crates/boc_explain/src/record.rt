@@ -5,15 +5,15 @@ ghost use Rattle.std.specs.Option.{option_copied};
 ghost use Rattle.boc_said.specs.Lines.{AreLinesOf};
 
 use crate::broken::put_broken;
-use crate::formed::{number, put_form, put_header};
-use crate::run::{Life, life_of, line_at, row_count, run_before};
+use crate::formed::{put_form, put_header};
+use crate::left::{put_truncated, put_unended};
+use crate::run::line_at;
 use boc_record::{RecordFault, RecordFaultKind as Kind};
-use boc_rules::Judge;
 use boc_said::place::{
     Beside, Place, Text, looks_like_names, looks_like_program, put_names_file, put_nothing,
     put_pair,
 };
-use boc_said::said::Part::{Many, Words};
+use boc_said::said::Part::Words;
 use boc_said::said::{Explained, Said, Told, first_case};
 use std::alloc::Global;
 
@@ -40,7 +40,7 @@ fn put_text(said: &mut Said, text: Text<'_>, place: Place<'_>, fault: RecordFaul
     } else if fault.line == 1 && looks_like_program(text.bytes) {
         put_program(said, place)
     } else if let Some(line) = line_at(text, fault.line) {
-        put_fault(said, text.bytes, line, place.command, fault)
+        put_fault(said, text, line, place.command, fault)
     } else {
         Ok(())
     }
@@ -87,49 +87,28 @@ pub(crate) fn is_first_version(text: &[u8]) -> bool {
 }
 
 #[rattlefmt::skip]
-fn put_fault(said: &mut Said, text: &[u8], line: &[u8], command: &str, fault: RecordFault) -> Told {
+fn put_fault(said: &mut Said, text: Text<'_>, line: &[u8], command: &str, fault: RecordFault) -> Told {
     said.set_subject(line)?;
     match fault.kind {
         Kind::Header => {
             put_header(said, line)?;
             put_other(said, line, command)
         }
-        Kind::Form => put_form(said, line, is_first_version(text)),
+        Kind::Form => put_form(said, line, is_first_version(text.bytes)),
         Kind::After => {
             let another = first_case(&[(line.starts_with(b"boc "), "another record begins here; a file has only one")]);
             said.about(another.unwrap_or("nothing can follow the line `.`"), &[])
         }
-        Kind::Unended => put_left(said, text, fault.line),
+        Kind::Unended => put_unended(said, text, fault.line),
         Kind::Truncated => {
             if line.is_empty() {
                 said.words("the record ends before the line `.`")?;
             } else {
                 said.about("the record ends within this line", &[])?;
             }
-            put_left(said, text, fault.line)
+            put_truncated(said, text, fault.line, !line.is_empty())
         }
         Kind::Memory | Kind::Device => Ok(()),
-        _ => put_broken(said, text, line, fault),
+        _ => put_broken(said, text.bytes, line, fault),
     }
-}
-
-// Reports what the run of the lines before this one has left undone.
-fn put_left(said: &mut Said, text: &[u8], line: u64) -> Told {
-    let run = run_before(said.alloc, text, line)?;
-    if run.count() == 0 {
-        return said.words("no row was spawned yet");
-    }
-    put_rows(said, &run, Life::Pending, "not started")?;
-    put_rows(said, &run, Life::Running, "started and not ended")
-}
-
-// Reports how many rows have come so far, as these words say, and which is the first of them.
-fn put_rows(said: &mut Said, run: &Judge, life: Life, come: &str) -> Told {
-    let mut rows = (0..row_count(run)).filter(|row| life_of(run, *row) == Some(life));
-    let Some(first) = rows.next() else {
-        return Ok(());
-    };
-    let count = (rows.count() as u64).saturating_add(1);
-    let parts = [Many(count, "row"), Words(come), number(first)];
-    said.tell("{} {}, the first is row ", &parts)
 }

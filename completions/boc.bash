@@ -7,6 +7,7 @@ _boc_options() {
     '') echo -h --help -V --version ;;
     values) echo -h --help --record --quiet ;;
     check) echo -h --help --program ;;
+    cut) echo -h --help --from --rows --names --out-names --quiet --tiles ;;
     run) echo -h --help -w --workers --seed --depth --timed --quiet ;;
     profile) echo -h --help -w --workers --seed --depth --timed --record -p --p --shared-reads --typical --no-plan --quiet ;;
     time) echo -h --help -w --workers --seed --depth --timed -p --p --shared-reads --no-plan --quiet ;;
@@ -30,7 +31,7 @@ _boc_words() {
 }
 
 _boc() {
-    local commands='values check run profile time whatif curve sweep why cowns compare outcomes help'
+    local commands='values check cut run profile time whatif curve sweep why cowns compare outcomes help'
     local current=${COMP_WORDS[COMP_CWORD]} option=${COMP_WORDS[COMP_CWORD - 1]} command='' are_options=yes at
     COMPREPLY=()
     for ((at = 1; at < COMP_CWORD; at++)); do
@@ -50,8 +51,8 @@ _boc() {
     fi
     if [[ $are_options ]]; then
         case $option in
-        --record | --program | --names | --names-a | --names-b) _boc_files "$current" && return ;;
-        -w | --workers | --seed | --depth | --runs | -p | --p | --without | --early | --best | --top | --then) return ;;
+        --out-names | --record | --program | --names | --names-a | --names-b) _boc_files "$current" && return ;;
+        -w | --workers | --seed | --depth | --runs | -p | --p | --without | --early | --from | --rows | --tiles | --best | --top | --then) return ;;
         esac
     fi
     if [[ $current == -* && $are_options ]]; then

@@ -64,9 +64,22 @@ runs_option = record { id = codes "runs"; letter = None; numbers = UpTo MOST_RUN
 abbrev pub best_option : NumberOption
 best_option = record { id = codes "best"; letter = None; numbers = UpTo MOST_ROWS }
 
+-- `--from RANK`, of the row among those that a stream spawns at which a window begins
+abbrev pub from_option : NumberOption
+from_option = record { id = codes "from"; letter = None; numbers = Every }
+
+-- `--rows N`, of so many rows at the most that are spawned in a window
+abbrev pub window_rows_option : NumberOption
+window_rows_option = record { id = codes "rows"; letter = None; numbers = UpTo MOST_ROWS }
+
+-- `--tiles K`, of so many windows into which a stream is cut
+abbrev pub tiles_option : NumberOption
+tiles_option = record { id = codes "tiles"; letter = None; numbers = UpTo MOST_ROWS }
+
 -- every option with a number
 abbrev pub number_options : List NumberOption
-number_options = runners_option ∷ seed_option ∷ workers_option ∷ top_option ∷ depth_option ∷ runs_option ∷ best_option ∷ then_option ∷ []
+number_options = runners_option ∷ seed_option ∷ workers_option ∷ top_option ∷ depth_option ∷ runs_option ∷ best_option ∷ then_option ∷ from_option
+    ∷ window_rows_option ∷ tiles_option ∷ []
 
 -- `--shared-reads`
 abbrev pub sharing_flag : Argument
@@ -131,6 +144,10 @@ before_names_file = codes "names-a"
 abbrev pub after_names_file : Text
 after_names_file = codes "names-b"
 
+-- `--out-names FILE`, of what rows and cowns of a window are called
+abbrev pub out_names_file : Text
+out_names_file = codes "out-names"
+
 -- the files that two inputs are read from
 abbrev pub before_operand : Text
 before_operand = codes "before"
@@ -152,6 +169,10 @@ edits_operands = operands (codes "edits")
 abbrev pub signature_of : Kind → Text × List Argument
 signature_of kinds.Values = (codes "values", repeated record_file ∷ quiet_flag ∷ input_operand ∷ [])
 signature_of kinds.Check = (codes "check", repeated program_file ∷ input_operand ∷ [])
+signature_of kinds.Cut = (
+  codes "cut",
+  number from_option ∷ number window_rows_option ∷ number tiles_option ∷ repeated names_file ∷ repeated out_names_file ∷ quiet_flag ∷ input_operand ∷ [],
+)
 signature_of kinds.Run =
     (codes "run", number runners_option ∷ number seed_option ∷ number depth_option ∷ timed_flag ∷ quiet_flag ∷ input_operand ∷ [])
 signature_of kinds.Profile = (
@@ -211,7 +232,7 @@ files_of _ = []
 
 -- every command, in the order of help
 abbrev pub every_kind : List Kind
-every_kind = kinds.Values ∷ kinds.Check ∷ kinds.Run ∷ kinds.Profile ∷ kinds.Time ∷ kinds.WhatIf ∷ kinds.Curve ∷ kinds.Sweep ∷ kinds.Why
+every_kind = kinds.Values ∷ kinds.Check ∷ kinds.Cut ∷ kinds.Run ∷ kinds.Profile ∷ kinds.Time ∷ kinds.WhatIf ∷ kinds.Curve ∷ kinds.Sweep ∷ kinds.Why
     ∷ kinds.Cowns ∷ kinds.Compare ∷ kinds.Outcomes ∷ []
 
 -- each by its name, with what it takes

@@ -27,6 +27,7 @@ use Rattle.boc_words.specs.declared.commands.Kind.TheVariants as called
 use Rattle.boc_words.specs.Commands.{Argument, IsNumberOf, NumberOption, commands_of_boc, number_options, shape_of_command, signature_of}
 use Rattle.boc_words.specs.Commands.{best_option, depth_option, files_of, names_file, program_file, record_file, runners_option, runs_option, seed_option}
 use Rattle.boc_words.specs.Commands.{after_names_file, after_operand, before_names_file, before_operand, then_option, top_option, workers_option}
+use Rattle.boc_words.specs.Commands.{from_option, out_names_file, tiles_option, window_rows_option}
 use Rattle.boc_words.specs.EditWords.{IsEditWord, IsWritable, edit_word, is_edit}
 use Rattle.boc_words.specs.declared.asked.AskedChanges.{AskedChanges}
 use Rattle.boc_words.specs.declared.asked.AskedCompare.{AskedCompare}
@@ -34,6 +35,7 @@ use Rattle.boc_words.specs.declared.asked.AskedCown.{AskedCown}
 use Rattle.boc_words.specs.declared.asked.AskedCown.TheVariants as cowns
 use Rattle.boc_words.specs.declared.asked.AskedCowns.{AskedCowns}
 use Rattle.boc_words.specs.declared.asked.AskedCurve.{AskedCurve}
+use Rattle.boc_words.specs.declared.asked.AskedCut.{AskedCut}
 use Rattle.boc_words.specs.declared.asked.AskedDraws.{AskedDraws}
 use Rattle.boc_words.specs.declared.asked.AskedEdit.{AskedEdit}
 use Rattle.boc_words.specs.declared.asked.AskedPlans.{AskedPlans}
@@ -42,6 +44,7 @@ use Rattle.boc_words.specs.declared.asked.AskedRuns.{AskedRuns}
 use Rattle.boc_words.specs.declared.asked.AskedSweep.{AskedSweep}
 use Rattle.boc_words.specs.declared.asked.AskedWhy.{AskedWhy}
 use Rattle.boc_words.specs.declared.asked.CompareFiles.{CompareFiles}
+use Rattle.boc_words.specs.declared.asked.CutNames.{CutNames}
 use Rattle.boc_words.specs.declared.asked.WhatIfFile.{WhatIfFile}
 use Rattle.boc_words.specs.declared.asked.WhatIfFile.TheVariants as supposed
 use Rattle.boc_words.specs.declared.asked.RunFile.{RunFile}
@@ -352,6 +355,47 @@ pub record AreRuns (rows : List Row) (asked : AskedRuns) : Type 0 where
   pub sharing : AreShared rows asked.sharing
   pub quiet : IsQuiet rows asked.quiet
 
+-- ---- a window of a stream
+
+-- this was asked of `cut`: the window begins at the row of this rank, or at the first, and has at most so many rows that are spawned in it, if there is a limit
+abbrev pub AsksCut : List Row → AskedCut → Type 0
+AsksCut rows asked = GivesOr 0 from_option rows asked.from × GivesNumber window_rows_option rows asked.rows × IsQuiet rows asked.quiet
+
+-- no file of names was given, or one for the stream and one for the window
+abbrev pub AreCutNames : List Row → Option CutNames → Type 0
+AreCutNames rows None = GivesFile rows names_file None × GivesFile rows out_names_file None
+AreCutNames rows (Some files) = GivesFile rows names_file (Some files.names) × GivesFile rows out_names_file (Some files.out_names)
+
+-- of the two files of names one was given, and not the other
+abbrev pub HasOneName : List Row → Type 0
+HasOneName rows = (HasSome (values_at rows names_file) true × HasSome (values_at rows out_names_file) false)
+    ⊎ (HasSome (values_at rows names_file) false × HasSome (values_at rows out_names_file) true)
+
+-- something was given that is of one window
+abbrev pub HasWindow : List Row → Type 0
+HasWindow rows =
+    HasSome (values_at rows from_option.id) true ⊎ (HasSome (values_at rows window_rows_option.id) true ⊎ (HasSome (values_at rows names_file) true
+    ⊎ HasSome (values_at rows out_names_file) true))
+
+-- nothing was given that is
+abbrev pub HasNoWindow : List Row → Type 0
+HasNoWindow rows =
+    HasSome (values_at rows from_option.id) false × HasSome (values_at rows window_rows_option.id) false × HasSome (values_at rows names_file) false
+    × HasSome (values_at rows out_names_file) false
+
+-- `--tiles` was given
+abbrev pub HasTiles : List Row → Type 0
+HasTiles rows = HasSome (values_at rows tiles_option.id) true
+
+-- a stream is not to be cut into many windows, or into so many, and nothing was given that is of one
+abbrev pub AreTiles : List Row → Option ℕ → Type 0
+AreTiles rows None = GivesNumber tiles_option rows None
+AreTiles rows (Some count) = GivesNumber tiles_option rows (Some count) × HasNoWindow rows
+
+-- of `cut` what is of one window was given next to `--tiles`, or one file of names alone, or two by one option
+abbrev pub IsUnfitCut : List Row → Type 0
+IsUnfitCut rows = (HasTiles rows × HasWindow rows) ⊎ (HasOneName rows ⊎ (AreTooMany (names_file ∷ []) rows ⊎ AreTooMany (out_names_file ∷ []) rows))
+
 -- `--short` was given, and the numbers before and after are told, or it was not
 abbrev pub IsShort : List Row → Bool → Type 0
 IsShort rows true = IsSet rows (codes "short")
@@ -478,6 +522,19 @@ IsOfRuns rows (faults.Parser e) =
 IsOfRuns rows faults.Memory = Unit {0}
 IsOfRuns rows _ = ⊥
 
+-- the fault is a conflict of `--tiles` with what is of one window, or says that the number behind `--tiles` cannot be read, or that memory was refused
+abbrev pub IsOfTiles : List Row → WordsFault → Type 0
+IsOfTiles rows (faults.Parser e) = HasNoNumber tiles_option rows ⊎ ((kind_of e ≡ kinds.ArgumentConflict) × HasTiles rows × HasWindow rows)
+IsOfTiles rows faults.Memory = Unit {0}
+IsOfTiles rows _ = ⊥
+
+-- the fault is a conflict of files of names: one alone, or two by one option; or it says that memory was refused
+abbrev pub IsOfCutNames : List Row → WordsFault → Type 0
+IsOfCutNames rows (faults.Parser e) =
+    (kind_of e ≡ kinds.ArgumentConflict) × (HasOneName rows ⊎ (AreTooMany (names_file ∷ []) rows ⊎ AreTooMany (out_names_file ∷ []) rows))
+IsOfCutNames rows faults.Memory = Unit {0}
+IsOfCutNames rows _ = ⊥
+
 -- the fault is a conflict of more files than one, or says that memory was refused
 abbrev pub IsOfFiles : List Text → List Row → WordsFault → Type 0
 IsOfFiles files rows (faults.Parser e) = (kind_of e ≡ kinds.ArgumentConflict) × AreTooMany files rows
@@ -494,6 +551,9 @@ Names named kind Holds = (rows : List Row) × (named ≡ Some ((signature_of kin
 abbrev pub Asks : Kind → List Row → Command → Type 0
 Asks kind rows (commands.Values record_path quiet) = (kind ≡ called.Values) × GivesFile rows record_file record_path × IsQuiet rows quiet
 Asks kind rows (commands.Check program_path) = (kind ≡ called.Check) × GivesFile rows program_file program_path
+Asks kind rows (commands.Cut asked files) =
+    (kind ≡ called.Cut) × HasSome (values_at rows tiles_option.id) false × AsksCut rows asked × AreCutNames rows files
+Asks kind rows (commands.Tiles count) = (kind ≡ called.Cut) × AreTiles rows (Some count)
 Asks kind rows (commands.Run schedule quiet) = (kind ≡ called.Run) × IsSchedule rows schedule × IsQuiet rows quiet
 Asks kind rows (commands.Profile asked record_path) = (kind ≡ called.Profile) × AsksProfile rows asked × GivesFile rows record_file record_path
 Asks kind rows (commands.Time schedule plans sharing quiet) =
@@ -551,12 +611,13 @@ IsUnfitPair rows = (LacksAfter rows ⊎ AreBothStandard rows) ⊎ (RepeatsNames 
 
 -- what the parser takes for this command does not fit, for a conflict: of a sweep, options that are at odds; of a command that runs a program by a
 -- schedule, a depth without a seed, or `--timed` with a seed; of any command, more files than one beside its input, or for it; of a command that may report
--- on many runs, what is of one alone; of `compare`, inputs or files of names
+-- on many runs, what is of one alone; of `compare`, inputs or files of names; of `cut`, `--tiles` with what is of one window, or files of names
 pub record IsUnfit (kind : Kind) (rows : List Row) (error : ErrorKind) : Type 0 where
   pub conflict : error ≡ kinds.ArgumentConflict
   pub why : ((kind ≡ called.Sweep) × AreAtOdds rows) ⊎ ((HasSchedule kind × (LacksSeed rows ⊎ IsDrawnAndTimed rows))
       ⊎ ((AreTooMany (files_of kind) rows ⊎ HasInputs kind rows)
-      ⊎ ((TakesRuns kind × HasRuns rows × IsOfOne rows) ⊎ ((kind ≡ called.Compare) × IsUnfitPair rows))))
+      ⊎ ((TakesRuns kind × HasRuns rows × IsOfOne rows) ⊎ (((kind ≡ called.Compare) × IsUnfitPair rows)
+      ⊎ ((kind ≡ called.Cut) × IsUnfitCut rows)))))
 
 -- a command was named, and what was found for it does not fit, for an error of this kind
 abbrev pub HasUnfit : Option (List ℕ × List Row) → ErrorKind → Type 0

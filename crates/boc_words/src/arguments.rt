@@ -245,6 +245,33 @@ pub(crate) const QUIET: FlagOption = FlagOption {
     help: "Print no notes, such as on rows ended by a fault",
 };
 
+/// At which of the rows that a stream spawns a window begins.
+pub(crate) const FROM: NumberOption = NumberOption {
+    id: "from",
+    letter: None,
+    value_name: "RANK",
+    numbers: Numbers::Every,
+    help: "Begin at spawn RANK, counted from 0 [default: 0]",
+};
+
+/// How many rows that are spawned in a window it has.
+pub(crate) const WINDOW_ROWS: NumberOption = NumberOption {
+    id: "rows",
+    letter: None,
+    value_name: "N",
+    numbers: Numbers::UpTo(MOST_ROWS as u32),
+    help: "Take at most N spawned rows, 1 to 65,535",
+};
+
+/// Into how many windows a stream is best cut.
+pub(crate) const TILES: NumberOption = NumberOption {
+    id: "tiles",
+    letter: None,
+    value_name: "K",
+    numbers: Numbers::UpTo(MOST_ROWS as u32),
+    help: "Print where to cut into K windows, 1 to 65,535",
+};
+
 /// How many cowns are printed.
 pub(crate) const TOP: NumberOption = NumberOption {
     id: "top",
@@ -252,6 +279,12 @@ pub(crate) const TOP: NumberOption = NumberOption {
     value_name: "K",
     numbers: Numbers::UpTo(MOST_COWNS as u32),
     help: "Print only the first K cowns, 1 to 256",
+};
+
+/// Whether notes on what is left out of a window are left out.
+pub(crate) const WINDOW_QUIET: FlagOption = FlagOption {
+    help: "Print no notes on what was left out",
+    ..QUIET
 };
 
 /// The cowns that `whatif` leaves out.
@@ -287,6 +320,19 @@ pub(crate) const NAMES: RepeatedOption = RepeatedOption {
     id: "names",
     value_name: "FILE",
     help: "Read the names of rows and cowns from FILE",
+};
+
+/// The file with the names of rows and cowns of a stream.
+pub(crate) const STREAM_NAMES: RepeatedOption = RepeatedOption {
+    help: "Read names for the stream from FILE",
+    ..NAMES
+};
+
+/// The file that the names of rows and cowns of a window are written to.
+pub(crate) const OUT_NAMES: RepeatedOption = RepeatedOption {
+    id: "out-names",
+    value_name: "FILE",
+    help: "Write names for the window to FILE",
 };
 
 /// The file with the names of rows and cowns of both inputs.
@@ -330,6 +376,13 @@ pub(crate) const INPUT: Operands = Operands {
     help: "File to read; `-` or nothing means standard input",
 };
 
+/// The file that a stream is read from.
+pub(crate) const STREAM: Operands = Operands {
+    value_name: "STREAM",
+    help: "Stream to read; `-` or nothing means standard input",
+    ..INPUT
+};
+
 /// The edits of `whatif`, and among them the file that the input is read from.
 pub(crate) const EDITS: Operands = Operands {
     id: "edits",
@@ -349,7 +402,7 @@ const _: () = prove!(MOST_COWNS == 256);
 // The limit that the help of `--depth` names.
 const _: () = prove!(MOST_DEPTH == 16);
 
-// The limit that the help of `--best` names.
+// The limit that the help of `--best`, `--rows` and `--tiles` names.
 const _: () = prove!(MOST_ROWS == 65_535);
 
 // The limit that the help of `--then` names.

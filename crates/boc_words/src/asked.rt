@@ -152,6 +152,26 @@ pub struct CompareFiles {
     pub after_names: Option<RunFile>,
 }
 
+/// The options of `cut`, without the files of names.
+#[derive(Clone, Copy, Debug)]
+pub struct AskedCut {
+    /// The rank among the spawns, counted from 0, of the row at which the window begins.
+    pub from: u64,
+    /// How many rows that are spawned in the window it has at most, if there is a limit.
+    pub rows: Option<u32>,
+    /// Whether notes are left out.
+    pub quiet: bool,
+}
+
+/// The files of names of `cut`.
+#[derive(Drop, Debug)]
+pub struct CutNames {
+    /// The path of the file with the names for the stream.
+    pub names: String,
+    /// The path of the file that the names for the window are written to.
+    pub out_names: String,
+}
+
 /// The options of `why` and of `compare` that report on many runs of a program.
 #[derive(Clone, Copy, Debug)]
 pub struct AskedRuns {

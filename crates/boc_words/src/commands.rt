@@ -9,10 +9,10 @@ ghost use Rattle.boc_words.specs.Words.{IsNoneOf, Told, command_line, without_co
 use crate::arguments::Argument::{Flag, Needed, Number, Repeated, Word, Words};
 use crate::arguments::{
     AFTER, AFTER_NAMES, ALL, Argument, BEFORE, BEFORE_NAMES, BEST, BOTH_NAMES, COMPARE_WORKERS,
-    CURVE_WORKERS, DEPTH, DRAWN_DEPTH, DRAWN_WORKERS, EARLY, EDITS, FIRST_SEED, INPUT, MANY_RUNS,
-    NAMES, NO_PLAN, PROGRAM, QUIET, RECORD, RUNNERS, RUNNERS_ALONE, RUNS, SEED, SHARING, SHORT,
-    SWEEP_COWNS, SWEEP_SPAWNS, SWEEP_WORKERS, THEN, TIMED, TOP, TYPICAL, WHY_WORKERS, WITHOUT,
-    WORKERS,
+    CURVE_WORKERS, DEPTH, DRAWN_DEPTH, DRAWN_WORKERS, EARLY, EDITS, FIRST_SEED, FROM, INPUT,
+    MANY_RUNS, NAMES, NO_PLAN, OUT_NAMES, PROGRAM, QUIET, RECORD, RUNNERS, RUNNERS_ALONE, RUNS,
+    SEED, SHARING, SHORT, STREAM, STREAM_NAMES, SWEEP_COWNS, SWEEP_SPAWNS, SWEEP_WORKERS, THEN,
+    TILES, TIMED, TOP, TYPICAL, WHY_WORKERS, WINDOW_QUIET, WINDOW_ROWS, WITHOUT, WORKERS,
 };
 use crate::version::VERSION;
 use boc_program::limits::{
@@ -25,6 +25,7 @@ use std::alloc::{AllocError, Global};
 pub(crate) enum Kind {
     Values,
     Check,
+    Cut,
     Run,
     Profile,
     Time,
@@ -99,6 +100,51 @@ Examples:
   boc run -w 4 --seed 3 program.boc | boc profile
 
 See also: boc help why, boc help check. Exit statuses: boc --help.";
+
+// What `cut` prints.
+const CUT_LINES: &str =
+    "STREAM has lines as a record has (boc help run), without a record's limits: row
+numbers that rise, any number of cowns, numbers of up to 18 digits, lines of up
+to 4,096 bytes. It may have no first line and no last one, and may stop between
+any two lines, as that of a run that crashed or hangs. The output is the record
+of one window of it, which every command takes that reads a record. A record
+that has ended is its own window, unless --from or --rows is given.
+
+The window begins when the row of --from RANK is spawned. It has the rows that
+are alive then, spawned and not ended, and those that are spawned from there on:
+at most N of these with --rows. A record has at most 65,535 rows in all. Reading
+stops when all rows of the window have ended.
+  - A row that is alive then is spawned at the beginning, by row 0 or by a row
+    that is added to help with that. Row 0 is main, if main is alive then, or it
+    replaces main. The row takes the ticks that are left after its last spawn.
+  - If the stream ends before that, rows that have not started are left out, and
+    rows that have not ended end at their last spawn.
+  - Cowns that one row alone uses are left out, and those that order the same
+    rows as another. Of more than 256, or more than 8 of a row, those are kept
+    that hand on along the window's chain, then those waited for longest.
+  - If a row takes more than 1,000,000 ticks, all ticks are divided by the first
+    of 2, 5, 10, 20, .. that is enough, and rounded up.
+Two rows of the record share a cown only if they share one in the stream, and
+the same row is spawned first. Notes on standard error say what was left out,
+and how much the span may differ for it; --quiet leaves them out.
+
+--names FILE has names for the stream: lines as for boc why --names, in which
+numbers of rows and cowns may be larger. --out-names FILE receives those of the
+window, for --names of other commands. Both are given, or neither.
+
+With --tiles K the output is a line FROM ROWS ALIVE fits for each window:
+  FROM   The rank at which it begins, for --from
+  ROWS   How many rows are spawned in it, for --rows
+  ALIVE  How many rows are alive when it begins: the fewer, the better
+  fits   `fits`, or `large` if a record cannot have that many rows
+No --from, --rows, --names and --out-names can be given then.
+
+Examples:
+  boc cut --from 500000 --rows 20000 run.stream > window.record
+  boc cut run.stream | boc why
+  boc cut --tiles 10 run.stream
+
+See also: boc help check, boc help why. Exit statuses: boc --help.";
 
 // What the lines of a report say.
 const REPORT_LINES: &str =
@@ -605,6 +651,7 @@ Terms:
                costs N, any other statement 1, and each turn of a `repeat` 1
                more. A body takes at most 1,000,000 ticks.
   record       The spawns, starts and ends of one run, as text.
+  stream       The same of a run of any size, which need not have ended.
   work         The ticks of all rows together.
   plan         A start tick for each row of a run. It keeps the spawns and the
                orders on the cowns of that run.
@@ -663,6 +710,7 @@ const _: () = prove!(MOST_TICKS == 1_000_000);
 const EVERY_KIND: &[Kind] = &[
     Kind::Values,
     Kind::Check,
+    Kind::Cut,
     Kind::Run,
     Kind::Profile,
     Kind::Time,
@@ -714,6 +762,21 @@ Examples:
   boc run -w 4 program.boc | boc check --program program.boc
 
 See also: boc help run. Exit statuses: boc --help.",
+};
+
+const CUT: Entry = Entry {
+    name: "cut",
+    about: about!("Cut a record out of a long or unfinished stream of lines"),
+    takes: &[
+        Number(FROM),
+        Number(WINDOW_ROWS),
+        Number(TILES),
+        Repeated(STREAM_NAMES),
+        Repeated(OUT_NAMES),
+        Flag(WINDOW_QUIET),
+        Word(STREAM),
+    ],
+    lines: CUT_LINES,
 };
 
 const RUN: Entry = Entry {
@@ -912,6 +975,7 @@ impl Kind {
         match self {
             Kind::Values => VALUES,
             Kind::Check => CHECK,
+            Kind::Cut => CUT,
             Kind::Run => RUN,
             Kind::Profile => PROFILE,
             Kind::Time => TIME,

@@ -11,8 +11,9 @@ mod version;
 mod words;
 
 pub use asked::{
-    AskedChanges, AskedCompare, AskedCown, AskedCowns, AskedCurve, AskedDraws, AskedEdit,
-    AskedPlans, AskedProfile, AskedRuns, AskedSweep, AskedWhy, CompareFiles, RunFile, WhatIfFile,
+    AskedChanges, AskedCompare, AskedCown, AskedCowns, AskedCurve, AskedCut, AskedDraws, AskedEdit,
+    AskedPlans, AskedProfile, AskedRuns, AskedSweep, AskedWhy, CompareFiles, CutNames, RunFile,
+    WhatIfFile,
 };
 pub use boc_program::count::{Runners, Runs};
 pub use fault::WordsFault;

@@ -12,6 +12,7 @@ ghost use Rattle.boc_words.specs.Words.{AreDraws, AreEditsOf, GivesOr, IsOfDraws
 ghost use Rattle.boc_words.specs.Words.{AreTimedWorkers, IsOfTimedWorkers, IsOfUntimed, IsUntimed};
 ghost use Rattle.boc_words.specs.Words.{AreNames, AreRuns, HasNames, HasNoNames, HasSome, IsAfter, IsOfAfter, IsOfMany, IsOfNames, IsOfOne, IsOfRuns};
 ghost use Rattle.boc_words.specs.Words.{AreChanges, AreEarlyDefs, ArePlans, ReadsFrom};
+ghost use Rattle.boc_words.specs.Words.{AreCutNames, AreTiles, HasNoWindow, HasWindow, IsOfCutNames, IsOfTiles};
 ghost use Rattle.boc_words.specs.Words.{command_line, values_at};
 ghost use Rattle.std.specs.List.{filter};
 ghost use Rattle.clap.specs.Kinds.{HasKind};
@@ -20,13 +21,15 @@ ghost use Rattle.clap.specs.Words.{fault_of, found_of, kind_of, rows_of, subcomm
 ghost use Rattle.std.specs.Prelude.{◌≡◌, ◌∷◌, ◌<◌, ◌^◌, ◌↔◌, if◌then◌else◌, [], ℕ, IfErr, IfNone, IfOk, IfSome, IsTrue, codes, map, not, string_bytes};
 
 use crate::arguments::{
-    AFTER, AFTER_NAMES, ALL, BEFORE, BEFORE_NAMES, BEST, DEPTH, EARLY, EDITS, INPUT, NAMES,
-    NO_PLAN, NumberOption, Numbers, PROGRAM, QUIET, RECORD, RUNNERS, RUNS, RepeatedOption, SEED,
-    SHARING, SHORT, SWEEP_COWNS, SWEEP_SPAWNS, THEN, TIMED, TOP, TYPICAL, WITHOUT, WORKERS,
+    AFTER, AFTER_NAMES, ALL, BEFORE, BEFORE_NAMES, BEST, DEPTH, EARLY, EDITS, FROM, INPUT, NAMES,
+    NO_PLAN, NumberOption, Numbers, OUT_NAMES, PROGRAM, QUIET, RECORD, RUNNERS, RUNS,
+    RepeatedOption, SEED, SHARING, SHORT, SWEEP_COWNS, SWEEP_SPAWNS, THEN, TILES, TIMED, TOP,
+    TYPICAL, WINDOW_ROWS, WITHOUT, WORKERS,
 };
 use crate::asked::{
-    AskedChanges, AskedCompare, AskedCown, AskedCowns, AskedCurve, AskedDraws, AskedEdit,
-    AskedPlans, AskedProfile, AskedRuns, AskedSweep, AskedWhy, CompareFiles, RunFile, WhatIfFile,
+    AskedChanges, AskedCompare, AskedCown, AskedCowns, AskedCurve, AskedCut, AskedDraws, AskedEdit,
+    AskedPlans, AskedProfile, AskedRuns, AskedSweep, AskedWhy, CompareFiles, CutNames, RunFile,
+    WhatIfFile,
 };
 use crate::commands::{Kind, kind_of, parser};
 use crate::edit_word::{edit_of, is_edit};
@@ -61,6 +64,13 @@ pub enum Command {
     Check {
         program: Option<String>,
     },
+    /// The record of a window of a stream.
+    Cut {
+        asked: AskedCut,
+        names: Option<CutNames>,
+    },
+    /// The ranks at which a stream is best cut into this many windows.
+    Tiles(u32),
     /// The record of a run of a program.
     Run {
         schedule: Schedule,
@@ -209,6 +219,7 @@ fn asked(alloc: Global, kind: Kind, matches: &ArgMatches) -> Result<Command, Wor
     match kind {
         Kind::Values => asked_values(alloc, matches),
         Kind::Check => asked_check(alloc, matches),
+        Kind::Cut => asked_cut(alloc, matches),
         Kind::Run => asked_run(alloc, matches),
         Kind::Profile => asked_profile(alloc, matches),
         Kind::Time => asked_time(alloc, matches),
@@ -241,6 +252,74 @@ fn asked_check(alloc: Global, matches: &ArgMatches) -> Result<Command, WordsFaul
     Ok(Command::Check {
         program: file_asked(alloc, matches, &PROGRAM)?,
     })
+}
+
+// Returns what `cut` has to do, by what was found for it.
+fn asked_cut(alloc: Global, matches: &ArgMatches) -> Result<Command, WordsFault>
+    ensures asked { IfOk result (Asks called.Cut (rows_of (found_of matches.now))) }
+    ensures refused { IfErr result (IsUnread called.Cut (rows_of (found_of matches.now))) }
+{
+    if let Some(count) = tiles_asked(alloc, matches)? {
+        return Ok(Command::Tiles(count));
+    }
+    Ok(Command::Cut {
+        asked: AskedCut {
+            from: number_or(alloc, matches, &FROM, 0)?,
+            rows: small_number_asked(alloc, matches, &WINDOW_ROWS)?,
+            quiet: is_set(texts_at(matches, QUIET.id)),
+        },
+        names: cut_names_asked(alloc, matches)?,
+    })
+}
+
+// Returns the number of windows that a stream is cut into, if it is given. It is a fault to give an option of one window too.
+fn tiles_asked(alloc: Global, matches: &ArgMatches) -> Result<Option<u32>, WordsFault>
+    ensures asked { IfOk result (AreTiles (rows_of (found_of matches.now))) }
+    ensures refused { IfErr result (IsOfTiles (rows_of (found_of matches.now))) }
+{
+    let tiles = small_number_asked(alloc, matches, &TILES)?;
+    match (tiles, of_one_window(matches)) {
+        (Some(_), Some(text)) => Err(at_odds(alloc, text)),
+        (tiles, _) => Ok(tiles),
+    }
+}
+
+// Returns what is wrong with an option that is of one window, where there is such an option next to `--tiles`.
+fn of_one_window(matches: &ArgMatches) -> Option<&'static str>
+    ensures none { IfNone result (HasNoWindow (rows_of (found_of matches.now))) }
+    ensures some { IfSome result (λ text. HasWindow (rows_of (found_of matches.now))) }
+{
+    if is_given(matches, FROM.id) {
+        Some("the argument '--tiles <K>' cannot be used with '--from <RANK>'")
+    } else if is_given(matches, WINDOW_ROWS.id) {
+        Some("the argument '--tiles <K>' cannot be used with '--rows <N>'")
+    } else if is_given(matches, NAMES.id) {
+        Some("the argument '--tiles <K>' cannot be used with '--names <FILE>'")
+    } else if is_given(matches, OUT_NAMES.id) {
+        Some("the argument '--tiles <K>' cannot be used with '--out-names <FILE>'")
+    } else {
+        None
+    }
+}
+
+// Returns the files of names of a stream and of its window, if they are given. One of them alone is a fault, and so are two of either.
+fn cut_names_asked(alloc: Global, matches: &ArgMatches) -> Result<Option<CutNames>, WordsFault>
+    ensures asked { IfOk result (AreCutNames (rows_of (found_of matches.now))) }
+    ensures refused { IfErr result (IsOfCutNames (rows_of (found_of matches.now))) }
+{
+    let names = file_asked(alloc, matches, &NAMES)?;
+    match (names, file_asked(alloc, matches, &OUT_NAMES)?) {
+        (None, None) => Ok(None),
+        (Some(names), Some(out_names)) => Ok(Some(CutNames { names, out_names })),
+        (Some(_), None) => Err(at_odds(
+            alloc,
+            "the argument '--names <FILE>' cannot be used without '--out-names <FILE>'",
+        )),
+        (None, Some(_)) => Err(at_odds(
+            alloc,
+            "the argument '--out-names <FILE>' cannot be used without '--names <FILE>'",
+        )),
+    }
 }
 
 // Returns what `run` has to do, by what was found for it.

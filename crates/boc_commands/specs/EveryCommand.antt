@@ -4,10 +4,12 @@ use Rattle.std.specs.Io.KnownBytes.{Keeps}
 use Rattle.boc_words.specs.declared.version.TheConstants.{VERSION}
 use Rattle.boc_words.specs.declared.words.Command.{Command}
 use Rattle.boc_words.specs.declared.words.Command.TheVariants as commands
+use Rattle.boc_words.specs.declared.asked.CutNames.{CutNames}
 use Rattle.boc_words.specs.declared.asked.WhatIfFile.{WhatIfFile}
 use Rattle.boc_words.specs.declared.asked.WhatIfFile.TheVariants as named
 use Rattle.boc_words.specs.declared.asked.RunFile.{RunFile}
 use Rattle.boc_words.specs.declared.asked.RunFile.TheVariants as files
+use Rattle.boc_cut_commands.specs.CutAnswers.{IsCutAnswer, IsTilesAnswer, RefusesWindow}
 use Rattle.boc_run_commands.specs.declared.fault.Fault.{Fault}
 use Rattle.boc_run_commands.specs.Answers.{IsCheckAnswer}
 use Rattle.boc_run_commands.specs.Commands.{AnswersInput, RefusesNothing, RefusesProgram, RefusesRecord, RefusesRun}
@@ -38,10 +40,15 @@ abbrev pub run_path : RunFile → List ℕ
 run_path (files.Record path) = string_bytes path
 run_path (files.Names path) = string_bytes path
 
+-- the path of the file with the names of a stream
+abbrev pub stream_names_path : CutNames → List ℕ
+stream_names_path names = string_bytes names.names
+
 -- the path of the file that a command names beside its input, where it names one
 abbrev pub file_of : Command → Option (List ℕ)
 file_of (commands.Values record_path quiet) = option_map string_bytes record_path
 file_of (commands.Check program_path) = option_map string_bytes program_path
+file_of (commands.Cut asked names) = option_map stream_names_path names
 file_of (commands.Profile asked record_path) = option_map string_bytes record_path
 file_of (commands.WhatIf schedule changes plans sharing file short) = option_map whatif_path file
 file_of (commands.Curve asked record_path) = option_map string_bytes record_path
@@ -60,6 +67,8 @@ AnswersCommand (commands.Values None quiet) beside pair notes before after text 
 AnswersCommand (commands.Values (Some path) quiet) beside pair notes before after text = AnswersInput (TellsValuesAfter beside quiet notes) before after text
 AnswersCommand (commands.Check None) beside pair notes before after text = AnswersInput IsCheckAnswer before after text
 AnswersCommand (commands.Check (Some path)) beside pair notes before after text = AnswersInput (IsCheckAgainstAnswer beside) before after text
+AnswersCommand (commands.Cut asked names) beside pair notes before after text = IsCutAnswer text
+AnswersCommand (commands.Tiles count) beside pair notes before after text = IsTilesAnswer count text
 AnswersCommand (commands.Run schedule quiet) beside pair notes before after text = AnswersInput (TellsRun schedule quiet notes) before after text
 AnswersCommand (commands.Profile asked record_path) beside pair notes before after text =
     AnswersInput (TellsProfileOf asked (supplied_record record_path) beside notes) before after text
@@ -83,6 +92,8 @@ AnswersCommand commands.Version beside pair notes before after text = (text ≡ 
 -- the commands that note nothing leave no notes
 abbrev pub NotesNothing : Command → List ℕ → Type 0
 NotesNothing (commands.Values record_path quiet) notes = Unit {0}
+NotesNothing (commands.Cut asked names) notes = Unit {0}
+NotesNothing (commands.Tiles count) notes = Unit {0}
 NotesNothing (commands.Run schedule quiet) notes = Unit {0}
 NotesNothing (commands.Profile asked record_path) notes = Unit {0}
 NotesNothing (commands.Time schedule plans sharing quiet) notes = Unit {0}
@@ -91,12 +102,19 @@ NotesNothing (commands.Cowns asked file) notes = Unit {0}
 NotesNothing (commands.Compare asked files) notes = Unit {0}
 NotesNothing _ notes = notes ≡ []
 
+-- the commands that cut no window leave no names of one
+abbrev pub NamesNothing : Command → List ℕ → Type 0
+NamesNothing (commands.Cut asked files) names = Unit {0}
+NamesNothing _ names = names ≡ []
+
 -- what a command refuses; a call for help or for the version refuses nothing
 abbrev pub RefusesCommand : {A : Type 0} → Type 0 → Command → List ℕ → Pair → Which → Result A Fault → Option (List ℕ) → Option (List ℕ) → Type 0
 RefusesCommand always_on (commands.Values None quiet) beside pair which result before after = RefusesProgram result before after
 RefusesCommand always_on (commands.Values (Some path) quiet) beside pair which result before after = RefusesValuesAfter beside result before after
 RefusesCommand always_on (commands.Check None) beside pair which result before after = RefusesRecord result before
 RefusesCommand always_on (commands.Check (Some path)) beside pair which result before after = RefusesAgainst beside result before
+RefusesCommand always_on (commands.Cut asked names) beside pair which result before after = RefusesWindow result
+RefusesCommand always_on (commands.Tiles count) beside pair which result before after = RefusesWindow result
 RefusesCommand always_on (commands.Run schedule quiet) beside pair which result before after = RefusesRun always_on schedule result before after
 RefusesCommand always_on (commands.Profile asked record_path) beside pair which result before after =
     RefusesEither (λ fault bytes. RefusesRecord {A = Unit {0}} (Err fault) bytes)

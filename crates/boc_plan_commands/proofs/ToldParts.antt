@@ -137,6 +137,7 @@ whatif_refused always_on schedule supplied file changes IsOfRecord (Err fault) b
     go (faults.Input r) w = inr (text, takes, of (faults.Input r) w)
     go (faults.Run r) w = inr (text, takes, of (faults.Run r) w)
     go faults.Unscheduled w = inr (text, takes, of faults.Unscheduled w)
+    go (faults.Window c) w = inr (text, takes, of (faults.Window c) w)
 
 -- ---- a record with a file of names
 

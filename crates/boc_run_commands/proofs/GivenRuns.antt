@@ -187,4 +187,5 @@ refused_unnamed bytes (Err f) fault before h wrong =
     go (faults.Words r) w = w
     go (faults.Run r) w = w
     go faults.Unscheduled w = w
+    go (faults.Window c) w = w
     go (faults.Means r) w = w

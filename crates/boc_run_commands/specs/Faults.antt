@@ -22,6 +22,14 @@ use Rattle.boc_record.specs.declared.fault.RecordFault.{RecordFault}
 use Rattle.boc_follow.specs.declared.stray.StrayFault.{StrayFault}
 use Rattle.boc_follow.specs.declared.stray.StrayFaultKind.{StrayFaultKind}
 use Rattle.boc_follow.specs.declared.stray.StrayFaultKind.TheVariants as strays
+use Rattle.boc_run_commands.specs.declared.fault.WindowFault.{WindowFault}
+use Rattle.boc_run_commands.specs.declared.fault.WindowFault.TheVariants as windows
+use Rattle.boc_stream.specs.declared.fault.LabelFault.{LabelFault}
+use Rattle.boc_stream.specs.declared.fault.LabelFaultKind.{LabelFaultKind}
+use Rattle.boc_stream.specs.declared.fault.LabelFaultKind.TheVariants as labels
+use Rattle.boc_stream.specs.declared.fault.StreamFault.{StreamFault}
+use Rattle.boc_stream.specs.declared.fault.StreamFaultKind.{StreamFaultKind}
+use Rattle.boc_stream.specs.declared.fault.StreamFaultKind.TheVariants as streams
 use Rattle.boc_text.specs.declared.fault.WriteFault.{WriteFault}
 use Rattle.boc_text.specs.declared.fault.WriteFault.TheVariants as writes
 use Rattle.boc_words.specs.declared.fault.WordsFault.{WordsFault}
@@ -37,6 +45,13 @@ use Rattle.boc_reader.specs.FaultTexts.{kind_text}
 use Rattle.boc_record.specs.Faults.{kind_line}
 use Rattle.boc_follow.specs.Strays.{kind_line as stray_line}
 use Rattle.boc_names.specs.Said.{kind_line as names_line}
+use Rattle.boc_stream.specs.Faults.{label_kind_line, stream_kind_line}
+
+-- the same where no window was cut: the stream or its names were refused, or the program itself is at fault
+abbrev pub window_status : WindowFault → ℕ
+window_status (windows.Stream s) = 3
+window_status (windows.Names l) = 3
+window_status windows.Unmade = 4
 
 -- the status of the program: the words were refused, the input, or the run; or memory or a device that works was wanting
 abbrev pub status_of : Fault → ℕ
@@ -44,6 +59,7 @@ status_of (faults.Words w) = 2
 status_of (faults.Input i) = 3
 status_of (faults.Run r) = 4
 status_of faults.Unscheduled = 4
+status_of (faults.Window w) = window_status w
 status_of (faults.Means w) = 5
 
 -- the fault is want of memory or of a device
@@ -86,6 +102,18 @@ of_record r _ = faults.Input (inputs.Record r)
 abbrev pub of_stray : StrayFault → StrayFaultKind → Fault
 of_stray r strays.Memory = faults.Means wants.Memory
 of_stray r _ = faults.Input (inputs.Stray r)
+
+-- want of memory and a failing source are no refusal of a stream
+abbrev pub of_stream : StreamFault → StreamFaultKind → Fault
+of_stream s streams.Memory = faults.Means wants.Memory
+of_stream s streams.Device = faults.Means wants.Source
+of_stream s _ = faults.Window (windows.Stream s)
+
+-- a fault of the names of a stream, which are read from memory: what no device gives is want of memory
+abbrev pub of_labels : LabelFault → LabelFaultKind → Fault
+of_labels l labels.Memory = faults.Means wants.Memory
+of_labels l labels.Device = faults.Means wants.Memory
+of_labels l _ = faults.Window (windows.Names l)
 
 -- a fault of a program text that stands in a file
 abbrev pub of_read_beside : ReadFault → ReadFaultKind → Fault
@@ -180,6 +208,12 @@ input_line (inputs.Def number) = numbered (codes "boc: edit ") number no_def
 input_line (inputs.Stray r) = numbered (codes "boc: line ") r.line (stray_line r.kind)
 input_line (inputs.Beside f) = file_line f
 
+-- the line of a stream that no window was cut out of
+abbrev pub window_line : WindowFault → List ℕ
+window_line (windows.Stream s) = numbered (codes "boc: line ") s.line (stream_kind_line s.kind)
+window_line (windows.Names l) = numbered (codes "boc: names: line ") l.line (label_kind_line l.kind)
+window_line windows.Unmade = codes "boc: window: 1 Unmade"
+
 -- the line of what was wanting
 abbrev pub want_line : Want → List ℕ
 want_line wants.Memory = codes "boc: memory"
@@ -192,6 +226,7 @@ fault_line (faults.Words w) = words_line w
 fault_line (faults.Input i) = Some (input_line i)
 fault_line (faults.Run r) = Some (codes "boc: run: " ++ run_line r)
 fault_line faults.Unscheduled = Some (codes "boc: run: 7 Unscheduled")
+fault_line (faults.Window w) = Some (window_line w)
 fault_line (faults.Means w) = Some (want_line w)
 
 -- a text is the line, where there is one

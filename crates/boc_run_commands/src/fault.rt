@@ -4,7 +4,7 @@ ghost use Rattle.std.specs.Prelude.{◌≡◌, ◌+◌, ◌≤◌, ◌++◌, IfO
 ghost use Rattle.std.specs.Option.{option_map};
 ghost use Rattle.boc_text.specs.declared.decimal.TheConstants.{MOST_DIGITS};
 ghost use Rattle.boc_run_commands.specs.declared.fault.TheConstants.{MOST_FAULT_LINE};
-ghost use Rattle.boc_run_commands.specs.Faults.{edit_line, file_line, input_line, run_line, want_line};
+ghost use Rattle.boc_run_commands.specs.Faults.{edit_line, file_line, input_line, run_line, want_line, window_line};
 
 use arrayvec::ArrayString;
 use boc_draws::DrawFault;
@@ -14,6 +14,7 @@ use boc_names::NamesFault;
 use boc_plans::edit::EditFault;
 use boc_reader::{ReadFault, ReadFaultKind};
 use boc_record::{RecordFault, RecordFaultKind, WriteFault};
+use boc_stream::{LabelFault, LabelFaultKind, StreamFault, StreamFaultKind};
 use boc_text::{Stopped, TextFault};
 use boc_timed::TimedFault;
 use boc_words::WordsFault;
@@ -42,6 +43,8 @@ pub enum Fault {
     Run(RunFault),
     /// When the rows of a timed run ran is no schedule of its workers that ends in time. That is a fault of the program's own.
     Unscheduled,
+    /// No window was cut out of a stream.
+    Window(WindowFault),
     /// Memory was refused, or a device failed.
     Means(Want),
 }
@@ -80,6 +83,17 @@ pub enum FileFault {
     Names(NamesFault),
 }
 
+/// Why no window was cut out of a stream.
+#[derive(Clone, Copy, PartialEq, Eq, Debug)]
+pub enum WindowFault {
+    /// The stream was refused.
+    Stream(StreamFault),
+    /// The file with names for the stream was refused.
+    Names(LabelFault),
+    /// What was made is no record of the stream's rows. That is a fault of the program's own.
+    Unmade,
+}
+
 /// What was wanting.
 #[derive(Clone, Copy, PartialEq, Eq, Debug)]
 pub enum Want {
@@ -95,14 +109,14 @@ impl Fault {
     ghost use Rattle.boc_run_commands.specs.Faults.{status_of, gone_of, fault_line, IsLineOf};
 
     /// Returns the status of the program: 2 where the words were refused, 3 where the input was, 4 where the
-    /// run was, 5 where memory was or a device failed.
+    /// run was or the program itself is at fault, 5 where memory was or a device failed.
     pub fn status(&self) -> u8
         ensures { result ≡ status_of self.now }
     {
         match self {
             Fault::Words(_) => 2,
-            Fault::Input(_) => 3,
-            Fault::Run(_) | Fault::Unscheduled => 4,
+            Fault::Input(_) | Fault::Window(WindowFault::Stream(_) | WindowFault::Names(_)) => 3,
+            Fault::Run(_) | Fault::Unscheduled | Fault::Window(WindowFault::Unmade) => 4,
             Fault::Means(_) => 5,
         }
     }
@@ -133,6 +147,7 @@ impl Fault {
             Fault::Input(fault) => Some(input_text(fault)),
             Fault::Run(fault) => Some(joined("boc: run: ", run_text(*fault))),
             Fault::Unscheduled => Some(joined("boc: run: ", "7 Unscheduled")),
+            Fault::Window(fault) => Some(window_text(fault)),
             Fault::Means(want) => Some(want_text(*want)),
         }
     }
@@ -169,6 +184,17 @@ fn input_text(fault: &InputFault) -> Line
         InputFault::Def { number } => numbered("boc: edit ", *number as u64, NO_DEF),
         InputFault::Stray(fault) => numbered("boc: line ", fault.line, fault.kind_text()),
         InputFault::Beside(fault) => file_text(fault),
+    }
+}
+
+// Returns the line of a stream that no window was cut out of.
+fn window_text(fault: &WindowFault) -> Line
+    ensures { result.bytes ≡ window_line fault.now }
+{
+    match fault {
+        WindowFault::Stream(fault) => numbered("boc: line ", fault.line, fault.kind.text()),
+        WindowFault::Names(fault) => numbered("boc: names: line ", fault.line, fault.kind.text()),
+        WindowFault::Unmade => joined("boc: window: ", "1 Unmade"),
     }
 }
 
@@ -313,6 +339,33 @@ impl From<StrayFault> for Fault {
         match fault.kind {
             StrayFaultKind::Memory => Fault::Means(Want::Memory),
             _ => Fault::Input(InputFault::Stray(fault)),
+        }
+    }
+}
+
+impl From<StreamFault> for Fault {
+    ghost use Rattle.boc_run_commands.specs.Faults.{of_stream};
+
+    ghost from_gives = { λ s f. f ≡ of_stream s s.kind };
+
+    fn from(fault: StreamFault) -> Fault {
+        match fault.kind {
+            StreamFaultKind::Memory => Fault::Means(Want::Memory),
+            StreamFaultKind::Device => Fault::Means(Want::Source),
+            _ => Fault::Window(WindowFault::Stream(fault)),
+        }
+    }
+}
+
+impl From<LabelFault> for Fault {
+    ghost use Rattle.boc_run_commands.specs.Faults.{of_labels};
+
+    ghost from_gives = { λ l f. f ≡ of_labels l l.kind };
+
+    fn from(fault: LabelFault) -> Fault {
+        match fault.kind {
+            LabelFaultKind::Memory | LabelFaultKind::Device => Fault::Means(Want::Memory),
+            _ => Fault::Window(WindowFault::Names(fault)),
         }
     }
 }

@@ -17,8 +17,8 @@ use boc_workers::RunFault;
 use std::alloc::{AllocError, Global};
 
 // The names of the commands.
-const COMMANDS: [&str; 13] = [
-    "values", "check", "run", "profile", "time", "whatif", "curve", "sweep", "why", "cowns",
+const COMMANDS: [&str; 14] = [
+    "values", "check", "cut", "run", "profile", "time", "whatif", "curve", "sweep", "why", "cowns",
     "compare", "outcomes", "help",
 ];
 
@@ -226,7 +226,8 @@ pub(crate) fn beside_of(command: &Command) -> Option<Beside> {
         Command::WhatIf {
             file: Some(WhatIfFile::Names(_)),
             ..
-        } => Some(Beside::Names),
+        }
+        | Command::Cut { names: Some(_), .. } => Some(Beside::Names),
         Command::Sweep {
             file: Some(file),
             ..
@@ -391,6 +392,8 @@ fn name_of(command: &Command) -> &'static str {
     match command {
         Command::Values { .. } => "values",
         Command::Check { .. } => "check",
+        Command::Cut { .. } => "cut",
+        Command::Tiles(_) => "cut --tiles",
         Command::Run { .. } => "run",
         Command::Profile { .. } => "profile",
         Command::Time { .. } => "time",

@@ -7,17 +7,17 @@ use crate::explaining::{
     Texts, after_of, beside_of, explained, explained_words, names_of, schedule_of,
 };
 use boc_commands::{
-    Command, Fault, Pair, RunFile, Want, WhatIfFile, Which, WordsFault, file_named, read_words,
-    run_command,
+    Command, Fault, MOST_STREAM_NAMES, Pair, RunFile, Want, WhatIfFile, Which, WordsFault,
+    file_named, read_words, run_command,
 };
 use boc_explain::{Input, Kept};
 use boc_front::{
-    Given, MOST_INPUT, Meter, STACK, Stop, Watch, ended, idle_file_note, idle_note,
-    idle_note_beside, printed_words, read_beside, read_second, words_given,
+    Given, MOST_INPUT, Meter, Output, STACK, Stop, Watch, ended, idle_file_note, idle_note,
+    idle_note_beside, printed_words, read_beside, read_second, read_up_to, words_given,
 };
 use boc_input::Ahead;
 use boc_said::place::Beside as Place;
-use boc_text::Counted;
+use boc_text::{Counted, put_out};
 use std::alloc::AllocError;
 use std::fs::File;
 use std::io::{self, Read, Write};
@@ -125,12 +125,14 @@ fn answer<T: Read + Drop>(
 ) -> Result<(), Stop> {
     let kept = KeptBeside::of(rt, &beside);
     let mut which = Which::Before;
-    let input = Input::new(rt.alloc(), input.take(MOST_INPUT));
+    let input = Input::new(rt.alloc(), input.take(most_of(command)));
     let mut input = Ahead::new(rt.alloc(), input);
-    let mut output = Counted::new(rt.stdout());
+    let out_names = out_names_of(command);
+    let mut output = Output::new(rt.alloc(), rt.stdout(), out_names.is_some());
     let mut meter = Meter::new(rt);
     let watch = Watch::new(threads, Meter::new(rt));
     let mut notes = Vec::new(rt.alloc());
+    let mut names = Vec::new(rt.alloc());
     let done = run_command(
         threads,
         rt.alloc(),
@@ -140,6 +142,7 @@ fn answer<T: Read + Drop>(
         beside.pair,
         &mut meter,
         &mut notes,
+        &mut names,
         &mut which,
         &mut input,
         &mut output,
@@ -147,6 +150,7 @@ fn answer<T: Read + Drop>(
     watch.wipe();
     meter.wipe();
     let Err(fault) = done else {
+        put_held(rt, out_names, &names, output)?;
         note(rt, &notes);
         let is_record = input.inner().is_of_record() && is_of_record_too(command, &kept);
         note(rt, note_of(command, given, is_record).as_bytes());
@@ -161,6 +165,56 @@ fn answer<T: Read + Drop>(
     let path = path_of(command, which, path);
     let more = explained(rt.alloc(), &fault, command, path, &texts).ok();
     Err(Stop::Fault { fault, more })
+}
+
+// Returns how many bytes of an input a command may read. Those of a stream have no bound; it is read as it comes.
+fn most_of(command: &Command) -> u64 {
+    match command {
+        Command::Cut { .. } | Command::Tiles(_) => u64::MAX,
+        _ => MOST_INPUT,
+    }
+}
+
+// Returns the path of the file that the names of a window are written to, if there is one.
+fn out_names_of(command: &Command) -> Option<&String> {
+    match command {
+        Command::Cut {
+            names: Some(files),
+            ..
+        } => Some(&files.out_names),
+        _ => None,
+    }
+}
+
+// Writes the names of a window to the file with this path, if there is one, and then what was held back of the answer.
+fn put_held<T: Write + Drop>(
+    rt: HostRuntime,
+    path: Option<&String>,
+    names: &[u8],
+    output: Output<T>,
+) -> Result<(), Stop> {
+    let Some(path) = path else {
+        return Ok(());
+    };
+    let (inner, held) = output.into_parts();
+    let Some(held) = held else {
+        return Ok(());
+    };
+    if let Err(error) = written(&rt, path, names) {
+        return file_stop(rt, path, error, None);
+    }
+    let mut counted = Counted::new(inner);
+    match put_out(&mut counted, &held) {
+        Ok(()) => Ok(()),
+        Err(stopped) => Err(Stop::from(Fault::from(stopped))),
+    }
+}
+
+// Writes bytes to the file with this path, and replaces what is there.
+fn written(rt: &HostRuntime, path: &str, bytes: &[u8]) -> io::Result<()> {
+    let mut file = File::create(rt, path)?;
+    file.write_all(bytes)?;
+    file.flush()
 }
 
 // Returns the path of the input that a fault is in, if it comes from a file.
@@ -251,12 +305,15 @@ fn note(rt: HostRuntime, notes: &[u8]) {
 
 // Returns the bytes of the file that a command names with its input, as many as can matter, and no bytes where it names none.
 fn file_beside(rt: HostRuntime, command: &Command) -> Result<Vec<u8>, Stop> {
-    match (file_named(command), beside_of(command)) {
-        (Some(path), Some(kind)) => {
-            read_beside(&rt, path, kind).or_else(|error| file_stop(rt, path, error, None))
+    let read = match (file_named(command), beside_of(command)) {
+        (Some(path), Some(_)) if out_names_of(command).is_some() => {
+            (path, read_up_to(&rt, path, MOST_STREAM_NAMES as u64 + 1))
         }
-        _ => Ok(Vec::new(rt.alloc())),
-    }
+        (Some(path), Some(kind)) => (path, read_beside(&rt, path, kind)),
+        _ => return Ok(Vec::new(rt.alloc())),
+    };
+    let (path, bytes) = read;
+    bytes.or_else(|error| file_stop(rt, path, error, None))
 }
 
 // Returns the bytes of what a command compares its input with, as many as can matter, and no bytes where it compares nothing.

@@ -35,10 +35,13 @@ pub fn read_beside<R: Files + AllocGlobal>(
     path: &str,
     kind: Beside,
 ) -> io::Result<Vec<u8>> {
+    read_up_to(rt, path, most_beside(kind))
+}
+
+/// Returns the first bytes of the file with this path, this many at most.
+pub fn read_up_to<R: Files + AllocGlobal>(rt: &R, path: &str, most: u64) -> io::Result<Vec<u8>> {
     let mut bytes = Vec::new(rt.alloc());
-    File::open(rt, path)?
-        .take(most_beside(kind))
-        .read_to_end(&mut bytes)?;
+    File::open(rt, path)?.take(most).read_to_end(&mut bytes)?;
     Ok(bytes)
 }
 

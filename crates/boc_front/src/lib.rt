@@ -7,15 +7,17 @@ mod beside;
 mod explaining;
 mod given;
 mod meter;
+mod output;
 mod printing;
 mod stop;
 mod watch;
 mod words;
 
-pub use beside::{MOST_INPUT, read_beside, read_second};
+pub use beside::{MOST_INPUT, read_beside, read_second, read_up_to};
 pub use explaining::{Sources, drawn_at_depth, explain_input};
 pub use given::{Given, idle_file_note, idle_note, idle_note_beside};
 pub use meter::Meter;
+pub use output::Output;
 pub use printing::{printed, printed_words};
 pub use stop::{Stop, ended};
 pub use watch::Watch;

@@ -1,8 +1,12 @@
 //! A bank on a small runtime of behaviours by threads: `rustc --edition 2021 -O bank.rs`, and then
-//! `./bank [THREADS] [--audit] [--names FILE]`.
+//! `./bank [THREADS] [--long ROWS] [--audit] [--names FILE]`.
 //!
 //! It writes the record of its run to standard output, and what its rows and cowns are called to FILE. recorders/boc_record.rs records;
 //! docs/RECORDING.md says where its calls belong. A tick is a microsecond.
+//!
+//! With --long there are twenty thousand accounts and a thousand transfers a day, of which every hundredth is written into one log, and as many days as make
+//! at least so many rows. That is too much for a record: `boc cut` cuts a window out of it, and `boc why` says of that window that the log is what limits
+//! the run.
 
 #[path = "../../recorders/boc_record.rs"]
 mod boc_record;
@@ -32,16 +36,24 @@ struct Queue {
 
 type Body = fn(&mut Running, &[i64]);
 
-const CODES: [(&str, Body); 4] = [
+const CODES: [(&str, Body); 8] = [
     ("main", main_body),
     ("day", day),
     ("transfer", transfer),
     ("audit", audit),
+    ("main", long_main),
+    ("day", long_day),
+    ("move", long_transfer),
+    ("note", note),
 ];
 const MAIN: usize = 0;
 const DAY: usize = 1;
 const TRANSFER: usize = 2;
 const AUDIT: usize = 3;
+const LONG_MAIN: usize = 4;
+const LONG_DAY: usize = 5;
+const MOVE: usize = 6;
+const NOTE: usize = 7;
 
 /// A body with its arguments and its cowns, from its spawn to its end.
 struct Behaviour {
@@ -133,21 +145,22 @@ impl<'a> Runtime<'a> {
         }
     }
 
-    /// Runs main, and all that it spawns.
-    fn run(&'a self, threads: usize) {
-        self.spawn(&mut self.recorder.thread(), Row::NONE, MAIN, &[], &[]);
+    /// Runs a main body, and all that it spawns.
+    fn run(&'a self, threads: usize, code: usize, arguments: &[i64], patience: Duration) {
+        let main = &mut self.recorder.thread();
+        self.spawn(main, Row::NONE, code, arguments, &[]);
         let began = Instant::now();
         std::thread::scope(|scope| {
             for _ in 0..threads {
                 scope.spawn(|| self.serve_all());
             }
             let mut work = self.work.lock().unwrap();
-            while work.alive > 0 && began.elapsed() < PATIENCE {
-                work = self.work_changed.wait_timeout(work, PATIENCE).unwrap().0;
+            while work.alive > 0 && began.elapsed() < patience {
+                work = self.work_changed.wait_timeout(work, patience).unwrap().0;
             }
             if work.alive > 0 {
                 // Threads that wait for ever can't be joined.
-                print_record(self.recorder, None);
+                print_record(self.recorder, None, How::default());
                 std::process::exit(1);
             }
         });
@@ -281,8 +294,46 @@ fn audit(running: &mut Running, _: &[i64]) {
     running.write(6, running.read(6) + sum);
 }
 
+/// A long run has so many accounts, and as many transfers a day, of which one of so many is written into the log.
+const LONG_ACCOUNTS: usize = 20_000;
+const LONG_LOG: usize = LONG_ACCOUNTS;
+const MOVES: usize = 1_000;
+const NOTED: usize = 100;
+
+fn long_main(running: &mut Running, arguments: &[i64]) {
+    running.when(LONG_DAY, &[1, arguments[0]], &[]);
+}
+
+/// The next day begins when the last line of this one is in the log.
+fn long_day(running: &mut Running, arguments: &[i64]) {
+    let day = arguments[0] as usize;
+    for number in 0..MOVES {
+        let from = (day * 7919 + number * 17) % LONG_ACCOUNTS;
+        let to = (from + 1 + number * 31 % 9973) % LONG_ACCOUNTS;
+        running.when(MOVE, &[1], &[from, to]);
+        if (number + 1) % NOTED == 0 {
+            let left = if number + 1 == MOVES { arguments[1] - 1 } else { 0 };
+            running.when(NOTE, &[arguments[0], left], &[LONG_LOG]);
+        }
+    }
+}
+
+fn long_transfer(running: &mut Running, arguments: &[i64]) {
+    running.write(0, running.read(0) - arguments[0]);
+    running.write(1, running.read(1) + arguments[0]);
+}
+
+fn note(running: &mut Running, arguments: &[i64]) {
+    std::thread::sleep(Duration::from_micros(1000));
+    running.write(0, running.read(0) + 1);
+    if arguments[1] > 0 {
+        running.when(LONG_DAY, &[arguments[0] + 1, arguments[1]], &[]);
+    }
+}
+
 struct Words {
     threads: usize,
+    long: Option<i64>,
     mode: Mode,
     names: Option<String>,
 }
@@ -290,6 +341,7 @@ struct Words {
 fn words() -> Result<Words, &'static str> {
     let mut asked = Words {
         threads: 4,
+        long: None,
         mode: Mode::Profile,
         names: None,
     };
@@ -298,23 +350,24 @@ fn words() -> Result<Words, &'static str> {
         match word.as_str() {
             "--audit" => asked.mode = Mode::Audit,
             "--names" => asked.names = Some(words.next().ok_or("--names takes a file")?),
+            "--long" => asked.long = words.next().and_then(|word| word.parse().ok()),
             _ => {
                 asked.threads = word
                     .parse()
                     .ok()
                     .filter(|number| (1..=64).contains(number))
-                    .ok_or("usage: bank [THREADS] [--audit] [--names FILE]")?;
+                    .ok_or("usage: bank [THREADS] [--long ROWS] [--audit] [--names FILE]")?;
             }
         }
     }
     Ok(asked)
 }
 
-fn print_record(recorder: &Recorder, names: Option<&str>) {
+fn print_record(recorder: &Recorder, names: Option<&str>, how: How) {
     let mut file = names.map(|name| std::fs::File::create(name).expect("the file of names"));
     let names = file.as_mut().map(|file| file as &mut dyn std::io::Write);
     let mut record = std::io::BufWriter::new(std::io::stdout().lock());
-    match recorder.write(&mut record, names, How::default()) {
+    match recorder.write(&mut record, names, how) {
         Ok(report) => eprint!("{report}"),
         Err(fault) => eprintln!("{fault}"),
     }
@@ -322,15 +375,25 @@ fn print_record(recorder: &Recorder, names: Option<&str>) {
 
 fn main() -> Result<(), Box<dyn std::error::Error>> {
     let asked = words()?;
+    let memory = if asked.long.is_some() { 2 << 30 } else { 64 << 20 };
     let recorder = Recorder::new(Options {
         mode: asked.mode,
         knows_writes: true,
+        memory,
         ..Options::default()
     });
-    let accounts = (0..ACCOUNTS).map(|number| (format!("acct[{number}]"), 100));
+    let count = if asked.long.is_some() { LONG_ACCOUNTS } else { ACCOUNTS };
+    let accounts = (0..count).map(|number| (format!("acct[{number}]"), 100));
     let others = [("log".to_string(), 0), ("total".to_string(), 0)];
     let runtime = Runtime::new(&recorder, accounts.chain(others));
-    runtime.run(asked.threads);
-    print_record(&recorder, asked.names.as_deref());
+    match asked.long {
+        Some(rows) => {
+            let days = 1 + rows / (MOVES + MOVES / NOTED) as i64;
+            runtime.run(asked.threads, LONG_MAIN, &[days], PATIENCE * 100);
+        }
+        None => runtime.run(asked.threads, MAIN, &[], PATIENCE),
+    }
+    let how = How { whole: asked.long.is_some(), ..How::default() };
+    print_record(&recorder, asked.names.as_deref(), how);
     Ok(())
 }

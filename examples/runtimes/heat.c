@@ -2,11 +2,14 @@
  * Heat in a rod on a small runtime of behaviours by threads:
  *
  *     cc -O2 -pthread -I recorders examples/runtimes/heat.c -o heat
- *     ./heat [THREADS] [--rounds N] [--audit] [--names FILE] [--buffers FILE]
+ *     ./heat [THREADS] [--rounds N] [--long ROWS] [--audit] [--names FILE] [--buffers FILE]
  *
  * It writes the record of its run to standard output, and what its rows and cowns are called to FILE. recorders/boc_record.h records; the calls are
  * marked below by their names, boc_*. A tick is a microsecond. If the run takes more than two seconds a round, it is stopped: then the buffers
  * of the recorder go to the file of --buffers, of which recorders/boc_record.py makes a record.
+ *
+ * With --long the rod has a thousand cells, every hundredth of which writes into one log, and there are as many rounds as make at least so many rows.
+ * That is too much for a record: `boc cut` cuts a window out of it, and `boc why` says of that window that the log is what limits the run.
  */
 #include "boc_record.h"
 
@@ -15,7 +18,7 @@
 #include <signal.h>
 #include <stdatomic.h>
 
-enum { CELLS = 12, MOST_COWNS = 3, MOST_THREADS = 64 };
+enum { CELLS = 12, LONG_CELLS = 1000, NOTED = 100, MOST_COWNS = 3, MOST_THREADS = 64 };
 
 typedef struct behaviour behaviour;
 typedef struct worker worker;
@@ -53,11 +56,14 @@ struct worker {
 };
 
 static boc_recorder *recorder;
-static unsigned main_def, heat_def, smooth_def, report_def;
+static unsigned main_def, heat_def, smooth_def, report_def, note_def;
 static int64_t rounds = 4;
+static bool is_long;
 static int buffers = -1;
 
-static cown rod[CELLS];
+static cown rod[LONG_CELLS];
+static unsigned cells = CELLS;
+static cown book; /* the log of a long run */
 static double warmth;
 
 static pthread_mutex_t work_lock = PTHREAD_MUTEX_INITIALIZER;
@@ -187,7 +193,8 @@ static void work(unsigned microseconds)
 static void smooth(worker *me, behaviour *self)
 {
     cown *const *cell = self->cowns;
-    work(100);
+    if (!is_long)
+        work(100);
     cell[1]->value = (cell[0]->value + cell[1]->value + cell[2]->value) / 3;
     boc_wrote(&me->record, self->row, 1);
 }
@@ -196,6 +203,35 @@ static void report(worker *me, behaviour *self)
 {
     (void)me;
     warmth += self->cowns[0]->value;
+}
+
+/* Writes a line into the log. */
+static void note(worker *me, behaviour *self)
+{
+    work(1000);
+    self->cowns[0]->value++;
+    boc_wrote(&me->record, self->row, 0);
+}
+
+static void long_heat(worker *me, behaviour *self);
+
+/* Writes the last line of a round into the log, and begins the next round. */
+static void total(worker *me, behaviour *self)
+{
+    note(me, self);
+    if (self->round < rounds)
+        when(me, heat_def, long_heat, self->round + 1, NULL, 0);
+}
+
+/* One round of a long run. */
+static void long_heat(worker *me, behaviour *self)
+{
+    for (unsigned i = 1; i + 1 < cells; i++) {
+        when(me, smooth_def, smooth, self->round, (cown *[]){&rod[i - 1], &rod[i], &rod[i + 1]}, 3);
+        if (i % NOTED == 0)
+            when(me, note_def, note, self->round, (cown *[]){&book}, 1);
+    }
+    when(me, report_def, total, self->round, (cown *[]){&book}, 1);
 }
 
 /* One round over the rod; the next one is spawned at once, and its behaviours wait for those of this one cell by cell. */
@@ -211,7 +247,7 @@ static void heat(worker *me, behaviour *self)
 static void begin(worker *me, behaviour *self)
 {
     (void)self;
-    when(me, heat_def, heat, 1, NULL, 0);
+    when(me, heat_def, is_long ? long_heat : heat, 1, NULL, 0);
 }
 
 /* A run that hangs: its buffers are written, and make a record of it. */
@@ -223,22 +259,30 @@ static void give_up(int signal)
     _exit(1);
 }
 
+static void name_cown(cown *one, uint32_t number, const char *name)
+{
+    boc_name_cown(recorder, number, name);
+    one->asked.number = number;
+    pthread_mutex_init(&one->lock, NULL);
+}
+
 static void record(boc_mode mode)
 {
-    const boc_options options = {.mode = mode, .knows_writes = true};
+    const boc_options options = {.mode = mode, .knows_writes = true, .memory = is_long ? (size_t)1 << 31 : 0};
     recorder = boc_new(&options);
     main_def = boc_def(recorder, "main");
     heat_def = boc_def(recorder, "heat");
     smooth_def = boc_def(recorder, "smooth");
     report_def = boc_def(recorder, "report");
-    for (uint32_t i = 0; i < CELLS; i++) {
+    note_def = boc_def(recorder, "note");
+    for (uint32_t i = 0; i < cells; i++) {
         char name[16];
         snprintf(name, sizeof name, "cell[%" PRIu32 "]", i);
-        boc_name_cown(recorder, i, name);
-        rod[i].asked.number = i;
+        name_cown(&rod[i], i, name);
         rod[i].value = i == 0 ? 100 : 0;
-        pthread_mutex_init(&rod[i].lock, NULL);
     }
+    if (is_long)
+        name_cown(&book, cells, "log");
 }
 
 static void run(unsigned count)
@@ -264,7 +308,11 @@ int main(int argc, char **argv)
             mode = BOC_AUDIT;
         else if (strcmp(argv[i], "--rounds") == 0 && has_value)
             rounds = atoi(argv[++i]);
-        else if (strcmp(argv[i], "--names") == 0 && has_value)
+        else if (strcmp(argv[i], "--long") == 0 && has_value) {
+            is_long = true;
+            cells = LONG_CELLS;
+            rounds = 1 + atol(argv[++i]) / LONG_CELLS;
+        } else if (strcmp(argv[i], "--names") == 0 && has_value)
             names = fopen(argv[++i], "w");
         else if (strcmp(argv[i], "--buffers") == 0 && has_value)
             buffers = open(argv[++i], O_WRONLY | O_CREAT | O_TRUNC, 0666);
@@ -272,7 +320,7 @@ int main(int argc, char **argv)
             threads = atoi(argv[i]);
     }
     if (threads < 1 || threads > MOST_THREADS || rounds < 1) {
-        fputs("usage: heat [THREADS] [--rounds N] [--audit] [--names FILE] [--buffers FILE]\n", stderr);
+        fputs("usage: heat [THREADS] [--rounds N] [--long ROWS] [--audit] [--names FILE] [--buffers FILE]\n", stderr);
         return 2;
     }
     record(mode);
@@ -280,7 +328,7 @@ int main(int argc, char **argv)
     alarm((unsigned)rounds * 2);
     run((unsigned)threads);
     alarm(0);
-    boc_report done = boc_write(recorder, stdout, names, 0);
+    boc_report done = boc_write(recorder, stdout, names, is_long ? BOC_WHOLE : 0);
     boc_print_report(stderr, &done);
     boc_free(recorder);
     return done.fault == BOC_DONE ? 0 : 1;

@@ -1,8 +1,11 @@
 #!/usr/bin/env python3
-"""Dining philosophers on a small runtime of behaviours by threads: philosophers.py [THREADS] [--audit] [--names FILE].
+"""Dining philosophers on a small runtime of behaviours by threads: philosophers.py [THREADS] [--long ROWS] [--audit] [--names FILE].
 
 It writes the record of its run to standard output, and what its rows and cowns are called to FILE. recorders/boc_record.py records;
 docs/RECORDING.md says where its calls belong. A tick is a microsecond. If the run hangs, the record so far is written.
+
+With --long a thousand philosophers dine, of which ten have their meals counted, and there are as many meals as make at least so many rows. That is too much
+for a record: `boc cut` cuts a window out of it, and `boc why` says of that window that the counting is what limits the run.
 """
 import argparse
 import collections
@@ -17,8 +20,13 @@ import time
 sys.path.insert(0, os.path.join(os.path.dirname(os.path.abspath(__file__)), "..", "..", "recorders"))
 import boc_record
 
-# A run that takes longer hangs.
+# A run that takes longer hangs, and so does a long one that takes so much longer.
 PATIENCE = 10
+LONG_PATIENCE = 100
+
+# A long run has so many philosophers, and one of so many has its meals counted.
+LONG_SEATS = 1000
+COUNTED = 100
 
 
 class Cown:
@@ -163,10 +171,39 @@ def dine(runtime, seats=5, meals=3):
     runtime.run(main)
 
 
-def write(recorder, names):
+def dine_long(runtime, seats, meals):
+    """Many philosophers think and eat; one of so many has its meals counted, which takes a while."""
+    forks = [runtime.cown(f"fork[{seat}]", 0) for seat in range(seats)]
+    eaten = runtime.cown("eaten", 0)
+
+    def think(who, left):
+        runtime.when(eat, forks[who], forks[(who + 1) % seats], arguments=(who, left))
+
+    def eat(who, left, left_fork, right_fork):
+        left_fork.value += 1
+        right_fork.value += 1
+        if who % COUNTED == 0:
+            runtime.when(count, eaten, arguments=(who, left))
+        elif left > 1:
+            runtime.when(think, arguments=(who, left - 1))
+
+    def count(who, left, eaten):
+        eaten.value = eaten.value + 1
+        time.sleep(0.001)
+        if left > 1:
+            runtime.when(think, arguments=(who, left - 1))
+
+    def main():
+        for who in range(seats):
+            runtime.when(think, arguments=(who, meals))
+
+    runtime.run(main)
+
+
+def write(recorder, names, whole=False):
     try:
         with open(names, "w", encoding="ascii") if names else contextlib.nullcontext() as file:
-            report = recorder.write(sys.stdout, file)
+            report = recorder.write(sys.stdout, file, whole=whole)
     except boc_record.Failed as failed:
         sys.exit(f"boc_record: {failed}")
     sys.stdout.flush()
@@ -177,20 +214,26 @@ def write(recorder, names):
 def main():
     parser = argparse.ArgumentParser(description="Runs dining philosophers by threads, and writes the record of the run.")
     parser.add_argument("threads", nargs="?", type=int, default=4, choices=range(1, 65), metavar="THREADS", help="how many, 4 if not given")
+    parser.add_argument("--long", type=int, metavar="ROWS", help="a long run, of at least so many rows")
     parser.add_argument("--audit", action="store_true", help="keeps the order in which things happened, for boc check")
     parser.add_argument("--names", metavar="FILE", help="writes what rows and cowns are called to FILE")
     words = parser.parse_args()
-    recorder = boc_record.Recorder(mode=boc_record.AUDIT if words.audit else boc_record.PROFILE, knows_writes=True)
+    memory = (words.long or 0) * 2048 + (64 << 20)
+    recorder = boc_record.Recorder(mode=boc_record.AUDIT if words.audit else boc_record.PROFILE, knows_writes=True, memory=memory)
 
     def give_up(*_):
-        write(recorder, words.names)
+        write(recorder, words.names, bool(words.long))
         os._exit(1)
 
     signal.signal(signal.SIGALRM, give_up)
-    signal.alarm(PATIENCE)
-    dine(Runtime(words.threads, recorder))
+    signal.alarm(PATIENCE * LONG_PATIENCE if words.long else PATIENCE)
+    runtime = Runtime(words.threads, recorder)
+    if words.long:
+        dine_long(runtime, LONG_SEATS, 1 + words.long // (2 * LONG_SEATS))
+    else:
+        dine(runtime)
     signal.alarm(0)
-    write(recorder, words.names)
+    write(recorder, words.names, bool(words.long))
 
 
 if __name__ == "__main__":

@@ -144,6 +144,10 @@ ROWS = {
 }
 COWNS = {"philosophers.py": {"fork", "eaten"}, "bank.rs": {"acct", "log", "total"}, "heat.c": {"cell"}}
 
+# The cown that limits a long run of each, and how many rows such a run has at least here.
+LIMITING = {"philosophers.py": "eaten", "bank.rs": "log", "heat.c": "log"}
+LONG = 10000
+
 # What `check` cannot see, as docs/RECORDING.md says: a record of a run, and others of the same run with one thing changed that are accepted too.
 SEEN = "boc 2 2\n+ 0 0 0\n> 0\n+ 1 0 4 0\n+ 2 0 9 0 1\n< 0 12 0\n> 1\n+ 3 1 5 1\n< 1 20 0 0\n> 2\n< 2 20 0 0 1\n> 3\n< 3 8 0 1\n.\n"
 UNSEEN = [
@@ -306,12 +310,31 @@ def of_runtime(program, name, folder):
     yield f"{name}: two at once", None if together else "no two behaviours were ever under way at once"
     for kind, wanted in [("rows", ROWS[name]), ("cowns", COWNS[name])]:
         yield f"{name}: {kind} that why told of by name", None if wanted & told else f"none of {sorted(wanted)}"
+    try:
+        yield f"{name}: a long run", fault_of_long(program, name, command, folder)
+    except Failed as failed:
+        yield f"{name}: a long run", str(failed)
     for threads in ([], ["1"], ["1", "--audit"], ["8"], ["8", "--audit"], ["16"]):
         try:
             record = output_of([*command, *threads])
             yield f"{name}: threads {threads}", fault_of(done(b"ok %d\n" % read_record(record)), program.run(["check"], record))
         except (Failed, Refused) as wrong:
             yield f"{name}: threads {threads}", str(wrong)
+
+
+def fault_of_long(program, name, command, folder):
+    """A long run has as many rows as are asked for, and of a window of it `why` says that without this cown a fifth of the span is saved."""
+    names, made = os.path.join(folder, "long.names"), os.path.join(folder, "window.names")
+    stream = output_of([*command, str(THREADS), "--long", str(LONG), "--names", names])
+    if stream.count(b"\n+") < LONG:
+        return f"its run has {stream.count(b'+')} rows"
+    window = program.run(["cut", "--from", str(LONG // 2), "--rows", "5000", "--names", names, "--out-names", made], stream)
+    if window.status or window.errors:
+        return f"cut answers {window.status} and {window.errors}"
+    fault = fault_of(done(b"ok %d\n" % read_record(window.output)), program.run(["check"], window.output))
+    why = program.run(["why", "--typical", "--names", made], window.output)
+    found = re.search(rb"^  without %s +(\d+) +(\d+)$" % LIMITING[name].encode(), why.output, re.MULTILINE)
+    return fault or (None if found and 4 * int(found[2]) > int(found[1]) else f"why answers {why}")
 
 
 def has_two_at_once(record):

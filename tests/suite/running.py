@@ -112,12 +112,14 @@ sys.exit(os.waitstatus_to_exitcode(status) % 256)
 """
 
 
-def measured(command, seconds, asked, source=b""):
+def measured(command, seconds, asked, source=b"", **options):
     """The answer to a command within so many seconds and kilobytes of addresses, and how many kilobytes of memory it used at once."""
+    if "stdin" not in options:
+        options["input"] = source
     reading, writing = os.pipe()
     with os.fdopen(reading, "rb") as pipe:
         words = [sys.executable, "-S", "-c", MEASURE, *map(str, (writing, seconds, asked)), *command]
-        run = subprocess.run(words, input=source, capture_output=True, pass_fds=[writing], check=False)
+        run = subprocess.run(words, capture_output=True, pass_fds=[writing], check=False, **options)
         os.close(writing)
         return Answer(run.returncode, run.stdout, *told(run.stderr), tuple(command)), int(pipe.read() or b"0")
 

@@ -409,8 +409,8 @@ class Cut:
         others, helpers = alive - carries_main, sum(one.row is None for one in self.made[1:])
         end = min(window.end, len(self.stream.spawned))
         if begin or end == min(asked or MOST_ROWS, MOST_ROWS):
-            has_some = end > begin
-            yield f"the window is ranks {begin} to {end - 1} of the stream" if has_some else f"no row of rank {begin} or above fits: {alive} were alive before it"
+            no_row = f"no row of rank {begin} or above fits: {alive} were alive before it"
+            yield f"the window is ranks {begin} to {end - 1} of the stream" if end > begin else no_row
         if others:
             yield f"{count(others, 'row was', 'rows were')} alive before it, and {'is' if others == 1 else 'are'} spawned up to {self.late} ticks late"
         if helpers:

@@ -29,6 +29,9 @@ COMMANDS = [
     (["sweep", "--cowns"], True),
     (["whatif"], True),
     (["whatif", "2=1"], True),
+    (["cut"], True),
+    (["cut", "--from", "2", "--rows", "1"], True),
+    (["cut", "--tiles", "2"], True),
 ]
 
 # Words of `whatif` with a file among the edits, and those without it.

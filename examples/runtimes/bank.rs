@@ -4,9 +4,9 @@
 //! It writes the record of its run to standard output, and what its rows and cowns are called to FILE. recorders/boc_record.rs records;
 //! docs/RECORDING.md says where its calls belong. A tick is a microsecond.
 //!
-//! With --long there are twenty thousand accounts and a thousand transfers a day, of which every hundredth is written into one log, and as many days as make
-//! at least so many rows. That is too much for a record: `boc cut` cuts a window out of it, and `boc why` says of that window that the log is what limits
-//! the run.
+//! With --long there are twenty thousand accounts, and a thousand transfers in the ten hours of a day; each hour writes into one log. There are as many days
+//! as make at least so many rows. That is too much for a record: `boc cut` cuts a window out of it, and `boc why` says of that window that the log is what
+//! limits the run.
 
 #[path = "../../recorders/boc_record.rs"]
 mod boc_record;
@@ -36,13 +36,14 @@ struct Queue {
 
 type Body = fn(&mut Running, &[i64]);
 
-const CODES: [(&str, Body); 8] = [
+const CODES: [(&str, Body); 9] = [
     ("main", main_body),
     ("day", day),
     ("transfer", transfer),
     ("audit", audit),
     ("main", long_main),
     ("day", long_day),
+    ("hour", hour),
     ("move", long_transfer),
     ("note", note),
 ];
@@ -52,8 +53,9 @@ const TRANSFER: usize = 2;
 const AUDIT: usize = 3;
 const LONG_MAIN: usize = 4;
 const LONG_DAY: usize = 5;
-const MOVE: usize = 6;
-const NOTE: usize = 7;
+const HOUR: usize = 6;
+const MOVE: usize = 7;
+const NOTE: usize = 8;
 
 /// A body with its arguments and its cowns, from its spawn to its end.
 struct Behaviour {
@@ -294,28 +296,33 @@ fn audit(running: &mut Running, _: &[i64]) {
     running.write(6, running.read(6) + sum);
 }
 
-/// A long run has so many accounts, and as many transfers a day, of which one of so many is written into the log.
+/// A long run has so many accounts, so many hours a day, and as many transfers an hour.
 const LONG_ACCOUNTS: usize = 20_000;
 const LONG_LOG: usize = LONG_ACCOUNTS;
-const MOVES: usize = 1_000;
-const NOTED: usize = 100;
+const HOURS: i64 = 10;
+const MOVES: usize = 100;
 
 fn long_main(running: &mut Running, arguments: &[i64]) {
     running.when(LONG_DAY, &[1, arguments[0]], &[]);
 }
 
-/// The next day begins when the last line of this one is in the log.
 fn long_day(running: &mut Running, arguments: &[i64]) {
-    let day = arguments[0] as usize;
+    for number in 0..HOURS {
+        running.when(HOUR, &[arguments[0], number, arguments[1]], &[]);
+    }
+}
+
+/// The next day begins when the line of the last hour is in the log.
+fn hour(running: &mut Running, arguments: &[i64]) {
+    let hour = (arguments[0] * HOURS + arguments[1]) as usize;
     for number in 0..MOVES {
-        let from = (day * 7919 + number * 17) % LONG_ACCOUNTS;
+        let from = (hour * 7919 + number * 17) % LONG_ACCOUNTS;
         let to = (from + 1 + number * 31 % 9973) % LONG_ACCOUNTS;
         running.when(MOVE, &[1], &[from, to]);
-        if (number + 1) % NOTED == 0 {
-            let left = if number + 1 == MOVES { arguments[1] - 1 } else { 0 };
-            running.when(NOTE, &[arguments[0], left], &[LONG_LOG]);
-        }
     }
+    let is_last = arguments[1] + 1 == HOURS;
+    let left = if is_last { arguments[2] - 1 } else { 0 };
+    running.when(NOTE, &[arguments[0], left], &[LONG_LOG]);
 }
 
 fn long_transfer(running: &mut Running, arguments: &[i64]) {
@@ -375,25 +382,36 @@ fn print_record(recorder: &Recorder, names: Option<&str>, how: How) {
 
 fn main() -> Result<(), Box<dyn std::error::Error>> {
     let asked = words()?;
-    let memory = if asked.long.is_some() { 2 << 30 } else { 64 << 20 };
+    let memory = if asked.long.is_some() {
+        2 << 30
+    } else {
+        64 << 20
+    };
     let recorder = Recorder::new(Options {
         mode: asked.mode,
         knows_writes: true,
         memory,
         ..Options::default()
     });
-    let count = if asked.long.is_some() { LONG_ACCOUNTS } else { ACCOUNTS };
+    let count = if asked.long.is_some() {
+        LONG_ACCOUNTS
+    } else {
+        ACCOUNTS
+    };
     let accounts = (0..count).map(|number| (format!("acct[{number}]"), 100));
     let others = [("log".to_string(), 0), ("total".to_string(), 0)];
     let runtime = Runtime::new(&recorder, accounts.chain(others));
     match asked.long {
         Some(rows) => {
-            let days = 1 + rows / (MOVES + MOVES / NOTED) as i64;
+            let days = 1 + rows / (HOURS * MOVES as i64);
             runtime.run(asked.threads, LONG_MAIN, &[days], PATIENCE * 100);
         }
         None => runtime.run(asked.threads, MAIN, &[], PATIENCE),
     }
-    let how = How { whole: asked.long.is_some(), ..How::default() };
+    let how = How {
+        whole: asked.long.is_some(),
+        ..How::default()
+    };
     print_record(&recorder, asked.names.as_deref(), how);
     Ok(())
 }

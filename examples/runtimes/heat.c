@@ -8,7 +8,7 @@
  * marked below by their names, boc_*. A tick is a microsecond. If the run takes more than two seconds a round, it is stopped: then the buffers
  * of the recorder go to the file of --buffers, of which recorders/boc_record.py makes a record.
  *
- * With --long the rod has a thousand cells, every hundredth of which writes into one log, and there are as many rounds as make at least so many rows.
+ * With --long the rod has a thousand cells in ten parts, each of which writes into one log, and there are as many rounds as make at least so many rows.
  * That is too much for a record: `boc cut` cuts a window out of it, and `boc why` says of that window that the log is what limits the run.
  */
 #include "boc_record.h"
@@ -18,7 +18,7 @@
 #include <signal.h>
 #include <stdatomic.h>
 
-enum { CELLS = 12, LONG_CELLS = 1000, NOTED = 100, MOST_COWNS = 3, MOST_THREADS = 64 };
+enum { CELLS = 12, LONG_CELLS = 1000, PARTS = 10, MOST_COWNS = 3, MOST_THREADS = 64 };
 
 typedef struct behaviour behaviour;
 typedef struct worker worker;
@@ -56,7 +56,7 @@ struct worker {
 };
 
 static boc_recorder *recorder;
-static unsigned main_def, heat_def, smooth_def, report_def, note_def;
+static unsigned main_def, heat_def, smooth_def, report_def, part_def, note_def;
 static int64_t rounds = 4;
 static bool is_long;
 static int buffers = -1;
@@ -223,15 +223,25 @@ static void total(worker *me, behaviour *self)
         when(me, heat_def, long_heat, self->round + 1, NULL, 0);
 }
 
+/* One round over a part of the rod, and its line of the log. Parts are numbered through all rounds. */
+static void part(worker *me, behaviour *self)
+{
+    int64_t round = self->round / PARTS;
+    unsigned number = (unsigned)(self->round % PARTS), size = cells / PARTS;
+    for (unsigned i = number * size; i < (number + 1) * size; i++)
+        if (i > 0 && i + 1 < cells)
+            when(me, smooth_def, smooth, round, (cown *[]){&rod[i - 1], &rod[i], &rod[i + 1]}, 3);
+    if (number + 1 < PARTS)
+        when(me, note_def, note, round, (cown *[]){&book}, 1);
+    else
+        when(me, report_def, total, round, (cown *[]){&book}, 1);
+}
+
 /* One round of a long run. */
 static void long_heat(worker *me, behaviour *self)
 {
-    for (unsigned i = 1; i + 1 < cells; i++) {
-        when(me, smooth_def, smooth, self->round, (cown *[]){&rod[i - 1], &rod[i], &rod[i + 1]}, 3);
-        if (i % NOTED == 0)
-            when(me, note_def, note, self->round, (cown *[]){&book}, 1);
-    }
-    when(me, report_def, total, self->round, (cown *[]){&book}, 1);
+    for (unsigned i = 0; i < PARTS; i++)
+        when(me, part_def, part, self->round * PARTS + i, NULL, 0);
 }
 
 /* One round over the rod; the next one is spawned at once, and its behaviours wait for those of this one cell by cell. */
@@ -274,6 +284,7 @@ static void record(boc_mode mode)
     heat_def = boc_def(recorder, "heat");
     smooth_def = boc_def(recorder, "smooth");
     report_def = boc_def(recorder, "report");
+    part_def = boc_def(recorder, "part");
     note_def = boc_def(recorder, "note");
     for (uint32_t i = 0; i < cells; i++) {
         char name[16];

@@ -758,6 +758,10 @@ def endless(program):
                     yield f"{options} of {front[-20:]} and {more} ..", fault_in_little([program.path, "cut", *options, pipe], refused(3, f"boc: {line}"))
             expected = refused(3, "boc: line 1: 18 LongLine")
             yield f"{options} /dev/zero", fault_in_little([program.path, "cut", *options, "/dev/zero"], expected)
+        front = b"".join(SHORT.splitlines(keepends=True)[:6])
+        with fed(folder, front, b"\0") as pipe:
+            expected = modelled(front + b"\0", 1, 1)[0]
+            yield "what is after the window is not read", fault_in_little([program.path, "cut", "--from", "1", "--rows", "1", pipe], expected)
         yield "an empty stream", fault_of(refused(3, "boc: line 1: 21 BeyondEnd"), program.run(["cut"]))
         yield "an empty stream: tiles", fault_of(refused(3, "boc: line 1: 21 BeyondEnd"), program.run(["cut", "--tiles", "2"]))
         most = ["--from", str(2 ** 64 - 1)]

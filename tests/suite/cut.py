@@ -225,8 +225,7 @@ def read_window(text, begin, asked):
             continue
         sign, numbers = stream.parts(line)
         if sign == b".":
-            if not stream.spawned or (window.kept if window else stream.spawned) and any(
-                    row.life != "ended" for row in (window.kept if window else stream.spawned)):
+            if not stream.spawned:
                 raise Fault(stream.line, "Unended")
             if stream.at < len(text):
                 raise Fault(stream.line + 1, "After")
@@ -673,7 +672,7 @@ WRONG = [
     (5, b"< 0 1 0\n", "line 6: 8 EndNotAllowed"),
     (6, b"< 1 7 0 5\n", "line 7: 8 EndNotAllowed"),
     (6, b"+ 3 1 9\n", "line 7: 4 ParentNotRunning"),
-    (6, b".\n", "line 7: 10 Unended"),
+    (6, b".\n", "line 8: 12 After"),
     (8, b"+ 4 1 9\n", "line 9: 4 ParentNotRunning"),
     (8, b"+ 4 5 9\n", "line 9: 4 ParentNotRunning"),
     (12, b"> 3\n", "line 13: 7 StartNotAllowed"),
@@ -688,8 +687,11 @@ WRONG = [
 
 
 def broken_one_way(program):
-    """Each kind of broken stream has its fault, whichever window is asked for that reaches its line."""
+    """Each kind of broken stream has its fault, whichever window is asked for that reaches its line. A last line while rows are alive is the end."""
     lines = SHORT.splitlines(keepends=True)
+    for count in range(1, len(lines)):
+        text = b"".join(lines[:count])
+        yield f"a last line after {count} lines", fault_of(modelled(text + b".\n", 0, None)[0], program.run(["cut"], text + b".\n"))
     for place, piece, fault in WRONG:
         text = b"".join(lines[:place] + [piece] + lines[place:])
         expected = refused(3, f"boc: {fault}")
@@ -890,10 +892,10 @@ CUT_NAMED = b"""\
 = 1 pay 5 x
 @ 0 acct[0]
 = 4 %s 1
-@ 1 cown[200]
-@ 2 cown[300]
-= 2 row 20
-= 3 row 15000
+@ 1 cown_200
+@ 2 cown_300
+= 2 row_20
+= 3 row_15000
 """ % (b"a" * 60 + b" " + b"b" * 9)
 
 
@@ -951,10 +953,10 @@ def names_of(cut, text):
             if place is not None:
                 lines.append(b"%s %d %s" % (sign, place, name))
                 named.add((sign, place))
-    lines += [b"@ %d cown[%d]" % (place, cown) for place, cown in enumerate(cut.cowns.kept) if (b"@", place) not in named]
+    lines += [b"@ %d cown_%d" % (place, cown) for place, cown in enumerate(cut.cowns.kept) if (b"@", place) not in named]
     for place, one in enumerate(cut.made):
         if (b"=", place) not in named:
-            lines.append(b"= %d row %d" % (place, one.row.number) if one.row else b"= %d outside" % place)
+            lines.append(b"= %d row_%d" % (place, one.row.number) if one.row else b"= %d outside" % place)
     return b"".join(shortened(line) + b"\n" for line in lines)
 
 
@@ -1001,7 +1003,7 @@ def named(program):
         write(own, b"= 999 pay\n= 999 pay\n@ 888 a\n@ 888 b\n")
         yield "two names of what is not in the window", fault_of(done(CUT, CUT_NOTES), program.run(["cut", "--from", "3", *beside], STREAM))
         command = [program.path, "cut", "--names", "/dev/zero", "--out-names", made]
-        yield "names without end", fault_in_little(command, refused(3, "boc: names: line 1: 2 TooLong"), STREAM)
+        yield "names without end", fault_in_little(command, refused(3, "boc: names: line 1: 9 TooMany"), STREAM)
 
 
 # ---- words and files
@@ -1009,7 +1011,7 @@ def named(program):
 REFUSED = [["--from", "-1"], ["--from", "x"], ["--from", str(2 ** 64)], ["--from"], ["--from", "1", "--from", "1"], ["--rows", "0"], ["--rows", "65536"],
            ["--rows", "x"], ["--rows"], ["--rows", "1", "--rows", "1"], ["--tiles", "0"], ["--tiles", "65536"], ["--tiles", "-1"], ["--tiles"],
            ["--tiles", "2", "--tiles", "2"], ["--tiles", "2", "--from", "0"], ["--tiles", "2", "--rows", "2"],
-           ["--tiles", "2", "--names", "a", "--out-names", "b"], ["--names", "a"], ["--out-names", "a"], ["--names"], ["a", "b"], ["--p", "2"], ["--quiet"]]
+           ["--tiles", "2", "--names", "a", "--out-names", "b"], ["--names", "a"], ["--out-names", "a"], ["--names"], ["a", "b"], ["--p", "2"]]
 
 
 def words_refused(program):
@@ -1037,7 +1039,7 @@ def files(program):
             for given in ([path], ["--names", path, "--out-names", made], ["--names", own, "--out-names", path]):
                 yield f"{given}", fault_of(Answer(5, b"", f"boc: {path}: {told}\n".encode(), b""), program.run([*asked, *given], STREAM))
         answer = program.run([*asked, "--names", own, "--out-names", "/dev/full"], STREAM)
-        yield "names on a full disk", fault_of(DEVICE, answer)
+        yield "names on a full disk", fault_of(Answer(5, b"", b"boc: /dev/full: No space left on device (os error 28)\n", b""), answer)
         write(closed, NAMES)
         os.chmod(closed, 0)
         os.chmod(folder, stat.S_IRWXU | stat.S_IXGRP | stat.S_IXOTH)

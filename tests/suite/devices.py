@@ -63,7 +63,10 @@ def early_ends(program):
         for words in OF_RECORDS:
             answer = run_in_pieces(program, words, source, 16)
             expected = refused(3, f"boc: line {line}: 11 Truncated")
-            yield f"{' '.join(words)}: a source without its last {bytes_left} bytes", fault_of(expected, answer)
+            # A stream may end between two lines.
+            is_whole = words[0] == "cut" and source.endswith(b"\n")
+            fault = (f"it told {answer}" if answer.status else None) if is_whole else fault_of(expected, answer)
+            yield f"{' '.join(words)}: a source without its last {bytes_left} bytes", fault
 
 
 def long_outputs(program):

@@ -56,6 +56,7 @@ fn done<R: Abort + Threads + Wait + Sync, G: Gate>(
         Pair::none(alloc),
         &mut Silent,
         &mut Vec::new(alloc),
+        &mut Vec::new(alloc),
         &mut Which::Before,
         &mut Ahead::new(alloc, bytes(rt, alloc, text)),
         sink,

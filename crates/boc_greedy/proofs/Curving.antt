@@ -1,11 +1,13 @@
 -- What the points of a curve lie between, and that there is one of each.
-use Rattle.std.proofs.Common.{◌≡◌, ℕ, zero, suc, ◌+◌, ◌-◌, ◌*◌, ◌/◌, ◌<◌, ◌≤◌, List, length, get_or, sym, ◌∙◌, ap, subst, inl, inr, arith}
+use Rattle.std.proofs.Common.{◌≡◌, ℕ, zero, suc, ◌+◌, ◌-◌, ◌*◌, ◌/◌, ◌<◌, ◌≤◌, List, [], ◌∷◌, ◌++◌, length, get_or, refl, sym, ◌∙◌, ap, subst, inl, inr, arith}
 use Rattle.std.specs.Prelude.{max, slice_get, Some}
 use Rattle.std.specs.List.{AllZip, range_with_len}
 use Rattle.std.proofs.Math.Nat.{mul-le-mul_left}
 use Rattle.std.proofs.lemmas.Bool.{cases_lt}
-use Rattle.std.proofs.lemmas.List.{ext_get_or}
-use Rattle.std.proofs.lemmas.Option.{slice_get-get_or, get_or_from_slice_get, slice_get_past}
+use Rattle.std.proofs.Math.ListN.{get_or-append}
+use Rattle.std.proofs.Math.Seq.{get_or-append_seam}
+use Rattle.std.proofs.lemmas.List.{ext_get_or, length-append}
+use Rattle.std.proofs.lemmas.Option.{slice_get-get_or, get_or_from_slice_get, slice_get_past, slice_get_read, slice_get_within}
 use Rattle.boc_runs.specs.declared.rows.Row.{Row}
 use Rattle.boc_runs.specs.Changes.{without}
 use Rattle.boc_runs.proofs.Freeing.{rows_without}
@@ -92,6 +94,24 @@ curve_of rows most points h = record {
 
     none : (i : ℕ) (point : CurvePoint) → most ≤ i → slice_get points i ≡ Some point → ⊥
     none i point ge there = let past = slice_get_past points i (omega (arith, ge, whole)) in cc
+
+-- and with the point of one worker more
+pub curve_more : (rows : List Row) (n : ℕ) (points : List CurvePoint) (point : CurvePoint) → IsCurve rows n points → IsCurvePoint rows (n + 1) point
+    → IsCurve rows (n + 1) (points ++ point ∷ [])
+curve_more rows n points point c more = record {
+  whole = length-append points (point ∷ []) ∙ ap (λ (k : ℕ). k + 1) c.whole;
+  at = λ place x there. (
+      let is : get_or (points ++ point ∷ []) place x ≡ x = get_or_from_slice_get (points ++ point ∷ []) place x x there in
+      elim (cases_lt place (length points)) [
+        | inl lt ↦ c.at place x (slice_get_read points (length points) place x refl lt (sym is ∙ get_or-append points (point ∷ []) x place lt))
+        | inr ge ↦ (
+            let within = slice_get_within (points ++ point ∷ []) place x there in
+            let last : place ≡ length points = omega (arith, ge, within, length-append points (point ∷ [])) in
+            let same : point ≡ x = sym (get_or-append_seam points point [] x) ∙ ap (λ (k : ℕ). get_or (points ++ point ∷ []) k x) (sym last) ∙ is in
+            let n_is : n + 1 ≡ place + 1 = omega (arith, last, c.whole) in
+            subst (λ (k : ℕ). IsCurvePoint rows k x) n_is (subst (IsCurvePoint rows (n + 1)) same more))
+      ]);
+}
 
 -- what is at most so many times p is so many, or less, when it is divided and rounded up
 rounded_low : (p work last : ℕ) → 0 < p → work ≤ last * p → rounded_up work p ≤ last

@@ -24,6 +24,7 @@ pub mod Bound
 pub mod FewMoments
 pub mod Alone
 pub mod Latest
+pub mod Used
 pub mod Curving
 pub mod Alike
 pub mod Forking

@@ -1,6 +1,6 @@
 // The greedy plan as a whole.
 
-ghost use Rattle.std.specs.Prelude.{◌≡◌, ℕ, ◌^◌, ◌<◌, ◌≤◌, ◌∷◌, length, pred, replicate, IfOk};
+ghost use Rattle.std.specs.Prelude.{◌≡◌, ◌⊎◌, ℕ, ◌+◌, ◌^◌, ◌<◌, ◌≤◌, ◌∷◌, length, slice_index, pred, replicate, IfOk};
 ghost use Rattle.boc_program.specs.declared.limits.TheConstants.{MOST_WORKERS};
 ghost use Rattle.boc_runs.specs.Rows.{IsRows};
 ghost use Rattle.boc_plans.specs.Seen.{seen};
@@ -118,6 +118,43 @@ pub fn end_for(
 {
     let simulation = simulated(alloc, rows, waits, followers, family, p)?;
     Ok(latest_end(&TimedRows::all(rows), &simulation.starts))
+}
+
+// Returns how many workers these numbers need: one more than the greatest of them, and 1 where there is none.
+fn used(workers: &[u32]) -> u32
+    requires { (r : ℕ) → r < length workers.now → slice_index workers.now r < MOST_WORKERS }
+    ensures above { (r : ℕ) → r < length workers.now → slice_index workers.now r < result }
+    ensures least { (result ≡ 1) ⊎ ((r : ℕ) × (r < length workers.now) × (slice_index workers.now r + 1 ≡ result)) }
+{
+    let mut used = 1;
+    for worker in workers {
+        used = (worker + 1).max(used);
+    }
+    used
+}
+
+/// Returns the tick at which the greedy plan of the rows for p workers ends, and how many workers it uses. The plans for so many workers and for more, up to
+/// p, are the same one. `AllocError` says that memory was refused.
+pub fn end_and_used(
+    alloc: Global,
+    rows: &SeenRows,
+    waits: &Links,
+    followers: &Links,
+    family: &Family,
+    p: u32,
+) -> Result<(u64, u32), AllocError>
+    requires shape { IsRows rows.now }
+    requires waits { AreWaits rows.now waits.now }
+    requires followers { AreFollowers waits.now followers.now }
+    requires family { IsFamilyOf rows.now family.now }
+    requires some { 0 < p }
+    requires few { p ≤ MOST_WORKERS }
+    ensures end { IfOk result (λ found. (q : ℕ) → found.1 ≤ q → q ≤ p → IsGreedyEnd rows.now q found.0) }
+    ensures used { IfOk result (λ found. (0 < found.1) × (found.1 ≤ p)) }
+{
+    let simulation = simulated(alloc, rows, waits, followers, family, p)?;
+    let end = latest_end(&TimedRows::all(rows), &simulation.starts);
+    Ok((end, used(&simulation.workers)))
 }
 
 /// Returns the tick at which the greedy plan of the rows for p workers ends, for a caller who knows which rows they wait for, and which

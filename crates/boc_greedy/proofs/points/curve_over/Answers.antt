@@ -1,43 +1,27 @@
-use Rattle.std.proofs.Common.{◌≡◌, ℕ, ◌<◌, ◌≤◌, ◌+◌, ◌-◌, ◌∙◌, List, ap, subst, arith, IfOk}
-use Rattle.std.specs.List.{AllZip, range_with_len}
-use Rattle.std.specs.declared.alloc.AllocError.{AllocError}
-use Rattle.std.specs.declared.result.Result.{Result}
-use Rattle.rayon.specs.Numbers.{nat_range}
-use Rattle.rayon.proofs.ListFacts.{IfOk-then}
-use Rattle.rayon.proofs.ToStd.{nat_range-All}
-use Rattle.boc_plans.proofs.Numbered.{gathered}
+use Rattle.std.proofs.Common.{◌≡◌, ℕ, ◌+◌, ◌-◌, List, [], ◌∷◌, ◌++◌, sym, subst, arith}
 use Rattle.boc_greedy.specs.declared.points.CurvePoint.{CurvePoint}
-use Rattle.boc_greedy.specs.Curves.{IsCurvePoint}
-use Rattle.boc_greedy.specs.Known.{IsKnown}
-use Rattle.boc_greedy.proofs.Curving.{curve_of}
+use Rattle.boc_greedy.specs.Curves.{IsCurve, IsCurvePoint}
+use Rattle.boc_greedy.proofs.Curving.{curve_more}
 use Rattle.boc_greedy.proofs.points.curve_over.Goals as goal
 
--- the closure's `requires` at each number of workers
-pub collect-requires-clause-ready : goal.collect-requires-clause-ready
-collect-requires-clause-ready g c κs within =
-    let ends = c.into_par_iter.ensures in
-    let n : ℕ = c.number-most.result in
-    let known : IsKnown c.args.rows.now c.args.waits.now c.args.consequences.now c.args.work c.args.span = record {
-      shape = c.requires.shape;
-      waits_are = c.requires.waits;
-      consequences = c.requires.consequences;
-      work_is = c.requires.work;
-      span_is = c.requires.span;
-    } in
-    let inside = nat_range-All (λ (p : ℕ). (0 < p) × (p ≤ 64)) 1 (n + 1)
-    (λ p low high. (omega (arith, low), omega (arith, high, c.number-most.ensures.value, c.number-most.ensures.few))) in
-    rw (c.map.ensures.base, c.map.ensures.f, c.with_min_len.ensures.base, ends.0, ends.1)
-    (λ k d lt. ((let b = inside k d lt in (b.0, b.1, known)), λ y p. tt))
+pub loop-p-init : goal.loop-p-init
+loop-p-init g c = c.in_ok-points.ensures
+
+pub loop-p-preserved : goal.loop-p-preserved
+loop-p-preserved g c =
+    let rows = c.args.rows.now in
+    let p : ℕ = c.loop-p.p in
+    let old : List CurvePoint = c.loop-p.points.items in
+    let point : CurvePoint = c.in_ok-point_of.field-0 in
+    let next : p ≡ p - 1 + 1 = omega (arith, c.loop-p.auto.p, c.in_ok-end.ensures.used.0) in
+    let now : p - 1 + 1 ≡ p + 1 - 1 = omega (arith, next) in
+    let more : IsCurve rows (p - 1 + 1) (old ++ point ∷ []) =
+    curve_more rows (p - 1) old point c.loop-p.invariant (subst (λ (n : ℕ). IsCurvePoint rows n point) next c.in_ok-point_of.ensures) in
+    subst (λ (n : ℕ). IsCurve rows n c.push.new.self.items) now (subst (IsCurve rows (p - 1 + 1)) (sym c.in_ok-push.ensures.items) more)
 
 pub returns : goal.returns
 returns g c =
-    let ends = c.into_par_iter.ensures in
-    let n : ℕ = c.number-most.result in
-    let rows : List _ = c.args.rows.now in
-    let whole : (n + 1) - 1 ≡ c.args.most = omega (arith, c.number-most.ensures.value) in
-    let h = c.in_ok-collect.ensures in
-    let chain = rw (c.map.ensures.base, c.map.ensures.f, c.with_min_len.ensures.base) at h.1 in
-    let places = chain.1 ∙ (λ i. nat_range (ends.0 i) (ends.1 i)) ∙ ap (range_with_len 1) whole in
-    let each = subst (λ (l : List ℕ). AllZip (λ (p : ℕ) (r : Result CurvePoint AllocError). IfOk r (IsCurvePoint rows p)) l h.0) places chain.2 in
-    IfOk-then c.in_ok-collect.field-0 _ _ (gathered (λ (p : ℕ) (point : CurvePoint). IsCurvePoint rows p point) _ h.0 c.in_ok-collect.field-0 each h.2)
-    (λ v z. curve_of rows c.args.most v.items z)
+    let low = c.in_ok-end.ensures.used.1 in
+    let end = c.loop-p.auto.p-end (omega (arith, low)) in
+    let whole : c.loop-p.p - 1 ≡ c.args.most = omega (arith, c.loop-p-test.false, end, c.number-most.ensures.value) in
+    subst (λ (n : ℕ). IsCurve c.args.rows.now n c.loop-p.points.items) whole c.loop-p.invariant

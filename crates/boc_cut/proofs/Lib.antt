@@ -1,3 +1,11 @@
+pub mod Counted
 pub mod Keeping
 pub mod Ordering
+pub mod Reaching
+pub mod RecordOrder
+pub mod Records
 pub mod Rising
+pub mod Spawning
+pub mod Tellings
+pub mod Wholes
+pub mod Windowing

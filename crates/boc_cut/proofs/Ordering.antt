@@ -36,7 +36,7 @@ module _ (text : List ℕ) (rows : List Row) (uses : List CownUse) (kept : List 
         number,
         cowns,
         is,
-        subst (λ (n : ℕ). Spawns text n cowns) same (spawned place r there),
+        subst (λ (n : ℕ). Spawns text n cowns) same (spawned place r there).by,
         subst (λ (z : ℕ). Contains cowns (slice_index kept z)) value (named (slice_range uses r.from r.to) _ (among k within).1),
       )
 

@@ -52,11 +52,20 @@ pub record Spawns (text : List ℕ) (number : ℕ) (cowns : List ℕ) : Type 0 w
   pub begins : EndsLine before
   pub is : text ≡ before ++ line (told_line (Spawn number parent offset) cowns) ++ after
 
--- Each row of a table was spawned by a line of the text, over its cowns. This is what the table keeps while it is read, and by it the order of a window is that
--- of the stream.
+-- the cowns that are used
+abbrev pub cowns_used : List CownUse → List ℕ
+cowns_used uses = map (λ u. u.cown) uses
+
+-- a row has its cowns among those of the table, and was spawned over them by a line of the text
+pub record IsSpawned (text : List ℕ) (uses : List CownUse) (row : Row) : Type 0 where
+  pub rises : row.from ≤ row.to
+  pub within : row.to ≤ length uses
+  pub by : Spawns text row.number (cowns_used (slice_range uses row.from row.to))
+
+-- Each row of a table was spawned by a line of the text, over its cowns. This is what the table keeps while the text is read, and by it the order of a window
+-- is that of the stream.
 abbrev pub AreSpawned : List ℕ → List Row → List CownUse → Type 0
-AreSpawned text rows uses = (place : ℕ) (row : Row) → slice_get rows place ≡ Some row
-    → Spawns text row.number (map (λ u. u.cown) (slice_range uses row.from row.to))
+AreSpawned text rows uses = (place : ℕ) (row : Row) → slice_get rows place ≡ Some row → IsSpawned text uses row
 
 -- two lists have an element in common
 abbrev pub Meet : List ℕ → List ℕ → Type 0

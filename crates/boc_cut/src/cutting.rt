@@ -1,7 +1,9 @@
 // From a stream to a window of it.
 
-ghost use Rattle.std.specs.Prelude.{◌<◌};
+ghost use Rattle.std.specs.Prelude.{◌≡◌, ◌<◌, false, IfOk, IfErr, None};
+ghost use Rattle.boc_stream.specs.LongLines.{to_come};
 ghost use Rattle.boc_cut.specs.Counting.{CountsCut, CountsFault};
+ghost use Rattle.boc_cut.specs.Cuts.{CutsAs, IsWindowOf, RefusesCut};
 
 use crate::follow::Stream;
 use crate::table::Table;
@@ -33,13 +35,34 @@ fn follow<S: Source>(
     table: &mut Table,
     progress: &mut dyn Progress,
 ) -> Result<Option<Window>, StreamFault>
-    requires { S.failures source.old < u64.MAX }
+    requires failures { S.failures source.old < u64.MAX }
+    requires open { stream.old.lines.is_over ≡ false }
+    ensures followed { CutsAs table.old.from table.old.asked result (to_come stream.old.lines (S.remaining source.old))
+        (to_come stream.new.lines (S.remaining source.new))
+        table.old.rows.items table.old.uses.items table.new.rows.items table.new.uses.items }
     ensures failures { CountsFault result (S.failures source.old) (S.failures source.new) }
 {
-    if table.from != 0 || table.asked.is_some() {
+    if table.is_part() {
         stream.follow(source, table, progress)?;
         return Ok(None);
     }
+    follow_whole(alloc, stream, source, table, progress)
+}
+
+// Follows a stream of which no part was asked for.
+fn follow_whole<S: Source>(
+    alloc: Global,
+    stream: &mut Stream,
+    source: &mut S,
+    table: &mut Table,
+    progress: &mut dyn Progress,
+) -> Result<Option<Window>, StreamFault>
+    requires failures { S.failures source.old < u64.MAX }
+    requires open { stream.old.lines.is_over ≡ false }
+    ensures followed { CutsAs 0 None result (to_come stream.old.lines (S.remaining source.old)) (to_come stream.new.lines (S.remaining source.new))
+        table.old.rows.items table.old.uses.items table.new.rows.items table.new.uses.items }
+    ensures failures { CountsFault result (S.failures source.old) (S.failures source.new) }
+{
     match follow_record(alloc, stream, source, table) {
         Ok(Tried::More) => {
             stream.follow(source, table, progress)?;
@@ -60,6 +83,9 @@ fn follow<S: Source>(
 /// into a record. Rows that are alive at `from` are in the window too. Ticks of the record are ticks of the stream, divided by
 /// `notes.divisor`. Progress is reported in rows that were spawned so far.
 ///
+/// Rows of the window that share a cown share one in the stream, and are spawned there in the same order. A stream that is the text of a
+/// record, of which no part is wanted, is its own window, and is refused only if memory or a device fails.
+///
 /// A fault has the line at which the stream is refused, counted from 1. Where memory is refused after reading, that is the last line read.
 /// At most 65,536 bytes are read after the last line that is needed.
 pub fn cut<S: Source>(
@@ -70,6 +96,8 @@ pub fn cut<S: Source>(
     progress: &mut dyn Progress,
 ) -> Result<Window, CutFault>
     requires { S.failures source.old < u64.MAX }
+    ensures window { IfOk result (λ window. IsWindowOf from rows (S.remaining source.old) (S.remaining source.new) window.record window.origins.items) }
+    ensures fault { IfErr result (λ fault. from ≡ 0 → rows ≡ None → RefusesCut fault (S.remaining source.old)) }
     ensures failures { CountsCut result (S.failures source.old) (S.failures source.new) }
 {
     let mut stream = Stream::new(alloc);
@@ -77,11 +105,14 @@ pub fn cut<S: Source>(
     match follow(alloc, &mut stream, source, &mut table, progress) {
         Ok(None) => {}
         Ok(Some(window)) => {
+            // That few bytes are taken in ahead is in the contract of this call.
+            let _few = stream.ahead();
             progress.done(window.notes.rows, window.notes.rows);
             return Ok(window);
         }
         Err(fault) => return Err(CutFault::Stream(fault)),
     }
+    let _ahead = stream.ahead();
     if !table.is_cut {
         return Err(CutFault::Stream(stream.fault(StreamFaultKind::BeyondEnd)));
     }

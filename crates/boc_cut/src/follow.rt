@@ -1,7 +1,12 @@
 // A stream, followed line by line.
 
-ghost use Rattle.std.specs.Prelude.{◌≡◌, ◌<◌, IfErr};
+ghost use Rattle.std.specs.Prelude.{◌≡◌, ◌<◌, ◌≤◌, [], false, length, IfErr, IfOk, OnOk};
+ghost use Rattle.std.specs.Bool.{OnTrue};
+ghost use Rattle.boc_stream.specs.LongLines.{to_come};
+ghost use Rattle.boc_stream.specs.declared.lines.TheConstants.{CAPACITY};
 ghost use Rattle.boc_cut.specs.Counting.{CountsFault, CountsPart, SparesSource};
+ghost use Rattle.boc_cut.specs.Reading.{FindsLine, FindsEnd, GoesOn, TakesTold};
+ghost use Rattle.boc_cut.specs.Spawned.{LineSpawns};
 
 use crate::table::Table;
 use boc_progress::Progress;
@@ -34,7 +39,10 @@ pub enum Step {
 
 impl Stream {
     /// Makes a stream of which nothing was read yet.
-    pub fn new(alloc: Global) -> Stream {
+    pub fn new(alloc: Global) -> Stream
+        ensures buffered { result.lines.buffered ≡ [] }
+        ensures is_over { result.lines.is_over ≡ false }
+    {
         Stream {
             lines: LongLines::new(),
             line: 1,
@@ -43,13 +51,18 @@ impl Stream {
     }
 
     /// Goes on to the next line.
-    pub fn step(&mut self) {
+    pub fn step(&mut self)
+        ensures { self.new.lines ≡ self.old.lines }
+    {
         self.line = self.line.saturating_add(1);
     }
 
     /// Finds the next line. `false` says that there is none.
     pub fn next_line<S: Source>(&mut self, source: &mut S) -> Result<bool, StreamFaultKind>
         requires { S.failures source.old < u64.MAX }
+        ensures found { FindsLine self.old.lines.is_over result self.new.lines.line (to_come self.old.lines (S.remaining source.old))
+            (to_come self.new.lines (S.remaining source.new)) }
+        ensures open { IfOk result (λ found. OnTrue found (self.new.lines.is_over ≡ false)) }
         ensures failures { CountsPart result (S.failures source.old) (S.failures source.new) }
     {
         match self.lines.advance(source) {
@@ -63,6 +76,8 @@ impl Stream {
 
     /// Takes the line that was found last into a table.
     pub fn take_line(&mut self, table: &mut Table) -> Result<Step, StreamFaultKind>
+        ensures lines { self.new.lines ≡ self.old.lines }
+        ensures table { OnOk result (LineSpawns self.old.lines.line table.old.rows.items table.old.uses.items table.new.rows.items table.new.uses.items) }
         ensures unread { IfErr result SparesSource }
     {
         let line = self.lines.line();
@@ -91,6 +106,8 @@ impl Stream {
         table: &mut Table,
     ) -> Result<Step, StreamFaultKind>
         requires { S.failures source.old < u64.MAX }
+        ensures table { OnOk result (GoesOn (to_come self.old.lines (S.remaining source.old)) (to_come self.new.lines (S.remaining source.new))
+            table.old.rows.items table.old.uses.items table.new.rows.items table.new.uses.items) }
         ensures failures { CountsPart result (S.failures source.old) (S.failures source.new) }
     {
         if self.next_line(source)? {
@@ -103,6 +120,8 @@ impl Stream {
     /// Sees that nothing follows the last line.
     pub fn finish<S: Source>(&mut self, source: &mut S) -> Result<(), StreamFaultKind>
         requires { S.failures source.old < u64.MAX }
+        ensures end { FindsEnd self.old.lines.is_over result (to_come self.old.lines (S.remaining source.old))
+            (to_come self.new.lines (S.remaining source.new)) }
         ensures failures { CountsPart result (S.failures source.old) (S.failures source.new) }
     {
         match self.lines.advance(source) {
@@ -120,6 +139,8 @@ impl Stream {
         progress: &mut dyn Progress,
     ) -> Result<bool, StreamFaultKind>
         requires { S.failures source.old < u64.MAX }
+        ensures table { OnOk result (GoesOn (to_come self.old.lines (S.remaining source.old)) (to_come self.new.lines (S.remaining source.new))
+            table.old.rows.items table.old.uses.items table.new.rows.items table.new.uses.items) }
         ensures failures { CountsPart result (S.failures source.old) (S.failures source.new) }
     {
         match self.advance(source, table)? {
@@ -147,10 +168,15 @@ impl Stream {
         progress: &mut dyn Progress,
     ) -> Result<(), StreamFaultKind>
         requires { S.failures source.old < u64.MAX }
+        ensures table { OnOk result (GoesOn (to_come self.old.lines (S.remaining source.old)) (to_come self.new.lines (S.remaining source.new))
+            table.old.rows.items table.old.uses.items table.new.rows.items table.new.uses.items) }
         ensures failures { CountsPart result (S.failures source.old) (S.failures source.new) }
     {
         for _ in 0..u64::MAX {
-            if table.is_over() || !self.advance_over(source, table, progress)? {
+            if table.is_over() {
+                return Ok(());
+            }
+            if !self.advance_over(source, table, progress)? {
                 return Ok(());
             }
         }
@@ -165,12 +191,22 @@ impl Stream {
         progress: &mut dyn Progress,
     ) -> Result<(), StreamFault>
         requires { S.failures source.old < u64.MAX }
+        ensures table { OnOk result (GoesOn (to_come self.old.lines (S.remaining source.old)) (to_come self.new.lines (S.remaining source.new))
+            table.old.rows.items table.old.uses.items table.new.rows.items table.new.uses.items) }
         ensures failures { CountsFault result (S.failures source.old) (S.failures source.new) }
     {
         match self.read(source, table, progress) {
             Ok(()) => Ok(()),
             Err(kind) => Err(self.fault(kind)),
         }
+    }
+
+    /// Returns how many bytes are taken in and not read yet.
+    pub fn ahead(&self) -> usize
+        ensures value { result ≡ length self.now.lines.buffered }
+        ensures few { result ≤ CAPACITY }
+    {
+        self.lines.buffered().len()
     }
 
     /// Returns a fault at the line that was read last.
@@ -195,7 +231,9 @@ pub fn unread(kind: StreamFaultKind) -> StreamFaultKind
 }
 
 // Takes what a line reports. The line `.` is the last one, whether or not rows are alive.
-fn take_told(table: &mut Table, told: Told, cowns: &[u64]) -> Result<Step, StreamFaultKind> {
+fn take_told(table: &mut Table, told: Told, cowns: &[u64]) -> Result<Step, StreamFaultKind>
+    ensures { OnOk result (TakesTold told cowns.now table.old.rows.items table.old.uses.items table.new.rows.items table.new.uses.items) }
+{
     match told {
         Told::Spawn {
             row,

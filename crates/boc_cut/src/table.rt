@@ -1,5 +1,9 @@
 // The rows of a stream that are alive, and from a cut on those of a window, judged by the rules of runs.
 
+ghost use Rattle.std.specs.Prelude.{◌≡◌, ◌++◌, ℕ, List, [], map, slice_set, slice_range, length, ◌≤◌, IsTrue, false, None, OnOk, IfOk};
+ghost use Rattle.boc_cut.specs.Windows.{cowns_used};
+ghost use Rattle.boc_cut.specs.Spawned.{KeepsSpawned, SpawnsMore, AreSameRows, AppendsUses};
+
 use crate::fans::Fans;
 use crate::index::{Index, Spot};
 use boc_program::body::EndStatus;
@@ -112,6 +116,113 @@ pub struct Table {
     pub log: Vec<Happened>,
 }
 
+// Replaces the row at a place.
+fn put_row(rows: &mut Vec<Row>, place: usize, row: Row)
+    ensures { rows.new.items ≡ slice_set rows.old.items place row }
+{
+    if place < rows.len() {
+        rows[place] = row;
+    }
+}
+
+// Notes of the rows that run how far they are where the window begins.
+fn carry(rows: &mut [Row])
+    ensures { AreSameRows rows.old rows.new }
+{
+    for place in 0..rows.len() {
+        let row = rows[place];
+        if row.life == Life::Running {
+            rows[place] = Row {
+                progress: row.last,
+                ran: true,
+                ..row
+            };
+        }
+    }
+}
+
+// Returns what comes after a cown, if that is the first.
+fn after_cown(cowns: &[u64], cown: u64) -> Option<&[u64]> {
+    let (first, others) = cowns.split_first()?;
+    if *first == cown { Some(others) } else { None }
+}
+
+// Replaces the use at a place.
+fn put_use(uses: &mut Vec<CownUse>, place: usize, used: CownUse)
+    ensures { uses.new.items ≡ slice_set uses.old.items place used }
+{
+    if place < uses.len() {
+        uses[place] = used;
+    }
+}
+
+// Notes whether the cown of the use at a place was written.
+fn mark(uses: &mut Vec<CownUse>, place: usize, is_written: bool)
+    ensures { cowns_used uses.new.items ≡ cowns_used uses.old.items }
+{
+    if place < uses.len() {
+        let used = uses[place];
+        put_use(uses, place, CownUse { is_written, ..used });
+    }
+}
+
+// Marks the use at a place, whose cown was written if it is the first of these or `is_all`. Returns the written cowns that are left.
+fn mark_use<'a>(
+    uses: &mut Vec<CownUse>,
+    place: usize,
+    written: &'a [u64],
+    is_all: bool,
+) -> &'a [u64]
+    ensures { cowns_used uses.new.items ≡ cowns_used uses.old.items }
+{
+    if place >= uses.len() {
+        return written;
+    }
+    match after_cown(written, uses[place].cown) {
+        Some(others) => {
+            mark(uses, place, true);
+            others
+        }
+        None => {
+            mark(uses, place, is_all);
+            written
+        }
+    }
+}
+
+// Marks the uses between two places whose cowns were written, or all of them, and says whether the written cowns rise and are among these.
+fn mark_written(
+    uses: &mut Vec<CownUse>,
+    from: usize,
+    to: usize,
+    written: &[u64],
+    is_all: bool,
+) -> bool
+    ensures { cowns_used uses.new.items ≡ cowns_used uses.old.items }
+{
+    let mut rest = written;
+    for place in from..to {
+        rest = mark_use(uses, place, rest, is_all);
+    }
+    rest.is_empty()
+}
+
+// Appends the uses of a row, which is the last one that has their cowns.
+fn keep_uses(
+    latest: &mut HashMap<u64, u64>,
+    uses: &mut Vec<CownUse>,
+    number: u64,
+    kept: &[CownUse],
+) -> Result<(), AllocError>
+    ensures { OnOk result (uses.new.items ≡ uses.old.items ++ kept.now) }
+{
+    for used in kept {
+        latest.insert(used.cown, number)?;
+        uses.push(*used)?;
+    }
+    Ok(())
+}
+
 // Returns whether numbers rise strictly.
 fn rise(numbers: &[u64]) -> bool {
     let mut last = None;
@@ -128,7 +239,12 @@ fn rise(numbers: &[u64]) -> bool {
 
 impl Table {
     /// Makes a table of no rows yet, for a window from this rank on, of at most the given number of rows.
-    pub fn new(alloc: Global, from: u64, asked: Option<u64>) -> Table {
+    pub fn new(alloc: Global, from: u64, asked: Option<u64>) -> Table
+        ensures from { result.from ≡ from }
+        ensures asked { result.asked ≡ asked }
+        ensures rows { result.rows.items ≡ [] }
+        ensures uses { result.uses.items ≡ [] }
+    {
         Table {
             version: Version::Second,
             cowns: None,
@@ -151,8 +267,19 @@ impl Table {
         }
     }
 
+    /// Returns whether a part of the stream is wanted, and not all of it.
+    pub fn is_part(&self) -> bool
+        ensures part { IsTrue result → self.now.from ≡ 0 → self.now.asked ≡ None → ⊥ }
+        ensures whole { result ≡ false → (self.now.from ≡ 0) × (self.now.asked ≡ None) }
+    {
+        self.from != 0 || self.asked.is_some()
+    }
+
     /// Takes what the first line says.
-    pub fn begin(&mut self, header: Header) {
+    pub fn begin(&mut self, header: Header)
+        ensures rows { self.new.rows.items ≡ self.old.rows.items }
+        ensures uses { self.new.uses.items ≡ self.old.uses.items }
+    {
         self.version = header.version;
         self.cowns = Some(header.cowns);
     }
@@ -189,7 +316,9 @@ impl Table {
     }
 
     // Returns the uses of a row.
-    fn uses_of(&self, row: &Row) -> &[CownUse] {
+    fn uses_of(&self, row: &Row) -> &[CownUse]
+        ensures { row.now.from ≤ row.now.to → row.now.to ≤ length self.now.uses.items → result.now ≡ slice_range self.now.uses.items row.now.from row.now.to }
+    {
         match self.uses.get(row.from..row.to) {
             Some(uses) => uses,
             None => &[],
@@ -203,30 +332,54 @@ impl Table {
         parent: u64,
         offset: u64,
         cowns: &[u64],
-    ) -> Result<(), StreamFaultKind> {
+    ) -> Result<(), StreamFaultKind>
+        ensures { OnOk result (SpawnsMore number cowns.now self.old.rows.items self.old.uses.items self.new.rows.items self.new.uses.items) }
+    {
         if self.main.is_some() && number <= self.greatest {
             return Err(StreamFaultKind::NumberNotNext);
         }
-        if self.rank == self.from {
-            self.cut()?;
-        }
+        self.cut_here()?;
         self.judge_parent(number, parent, offset)?;
         self.judge_cowns(cowns)?;
-        if !self.is_cut || self.rank < self.end {
-            self.put(number, parent, offset, cowns)?;
-        }
+        self.put_within(number, parent, offset, cowns)?;
         self.greatest = number;
         self.rank = self.rank.saturating_add(1);
         Ok(())
     }
 
-    // Sees that a row may have this parent at this offset, which is then that of the parent's last child.
-    fn judge_parent(
+    // Begins the window, if this is its rank.
+    fn cut_here(&mut self) -> Result<(), StreamFaultKind>
+        ensures { OnOk result (KeepsSpawned self.old.rows.items self.old.uses.items self.new.rows.items self.new.uses.items) }
+    {
+        if self.rank == self.from {
+            self.cut()
+        } else {
+            Ok(())
+        }
+    }
+
+    // Puts a row after the others, unless it is one behind the window.
+    fn put_within(
         &mut self,
         number: u64,
         parent: u64,
         offset: u64,
-    ) -> Result<(), StreamFaultKind> {
+        cowns: &[u64],
+    ) -> Result<(), StreamFaultKind>
+        ensures { OnOk result (SpawnsMore number cowns.now self.old.rows.items self.old.uses.items self.new.rows.items self.new.uses.items) }
+    {
+        if !self.is_cut || self.rank < self.end {
+            self.put(number, parent, offset, cowns)
+        } else {
+            Ok(())
+        }
+    }
+
+    // Sees that a row may have this parent at this offset, which is then that of the parent's last child.
+    fn judge_parent(&mut self, number: u64, parent: u64, offset: u64) -> Result<(), StreamFaultKind>
+        ensures rows { OnOk result (AreSameRows self.old.rows.items self.new.rows.items) }
+        ensures uses { self.new.uses.items ≡ self.old.uses.items }
+    {
         let Some(main) = self.main else {
             if parent != 0 {
                 return Err(StreamFaultKind::ParentNotRunning);
@@ -249,20 +402,27 @@ impl Table {
         let Some(place) = self.place_of(parent) else {
             return Err(StreamFaultKind::ParentNotRunning);
         };
-        let is_behind = self.is_cut && self.rank >= self.end;
-        let Some(row) = self.rows.get_mut(place) else {
+        let Some(row) = self.rows.get(place) else {
             return Err(StreamFaultKind::ParentNotRunning);
         };
+        let row = *row;
         if row.life != Life::Running {
             return Err(StreamFaultKind::ParentNotRunning);
         }
         if offset <= row.last {
             return Err(StreamFaultKind::Offset);
         }
-        if is_behind {
+        if self.is_cut && self.rank >= self.end {
             self.has_tail = self.has_tail || parent == main;
         } else {
-            row.last = offset;
+            put_row(
+                &mut self.rows,
+                place,
+                Row {
+                    last: offset,
+                    ..row
+                },
+            );
         }
         Ok(())
     }
@@ -288,41 +448,63 @@ impl Table {
         parent: u64,
         offset: u64,
         cowns: &[u64],
-    ) -> Result<(), StreamFaultKind> {
+    ) -> Result<(), StreamFaultKind>
+        ensures { OnOk result (SpawnsMore number cowns.now self.old.rows.items self.old.uses.items self.new.rows.items self.new.uses.items) }
+    {
         self.make_room(cowns.len())?;
-        let from = self.uses.len();
         let place = self.rows.len();
-        let done = self.put_uses(number, cowns).is_ok()
-            && self
-                .rows
-                .push(Row {
-                    number,
-                    parent,
-                    offset,
-                    last: 0,
-                    progress: 0,
-                    ticks: 0,
-                    from,
-                    to: from.saturating_add(cowns.len()),
-                    life: Life::Pending,
-                    ran: false,
-                    status: EndStatus::Done,
-                })
-                .is_ok()
-            && self.index.put_last(&self.rows).is_ok();
-        if !done {
+        let Ok(()) = self.put_row(number, parent, offset, cowns) else {
             return Err(StreamFaultKind::Memory);
-        }
+        };
         self.alive = self.alive.saturating_add(1);
-        if self.is_cut {
-            self.newest = number;
-            self.note(place, Deed::Spawned)?;
+        self.note_spawn(number, place)
+    }
+
+    // Notes the spawn of the row at a place, if it is one of the window.
+    fn note_spawn(&mut self, number: u64, place: usize) -> Result<(), StreamFaultKind>
+        ensures rows { self.new.rows.items ≡ self.old.rows.items }
+        ensures uses { self.new.uses.items ≡ self.old.uses.items }
+    {
+        if !self.is_cut {
+            return Ok(());
         }
-        Ok(())
+        self.newest = number;
+        self.note(place, Deed::Spawned)
+    }
+
+    // Puts a pending row and its cowns after the others.
+    fn put_row(
+        &mut self,
+        number: u64,
+        parent: u64,
+        offset: u64,
+        cowns: &[u64],
+    ) -> Result<(), AllocError>
+        ensures { OnOk result (SpawnsMore number cowns.now self.old.rows.items self.old.uses.items self.new.rows.items self.new.uses.items) }
+    {
+        let from = self.uses.len();
+        self.put_uses(number, cowns)?;
+        self.rows.push(Row {
+            number,
+            parent,
+            offset,
+            last: 0,
+            progress: 0,
+            ticks: 0,
+            from,
+            to: self.uses.len(),
+            life: Life::Pending,
+            ran: false,
+            status: EndStatus::Done,
+        })?;
+        self.index.put_last(&self.rows)
     }
 
     // Puts the cowns of a row after the others.
-    fn put_uses(&mut self, number: u64, cowns: &[u64]) -> Result<(), AllocError> {
+    fn put_uses(&mut self, number: u64, cowns: &[u64]) -> Result<(), AllocError>
+        ensures rows { self.new.rows.items ≡ self.old.rows.items }
+        ensures uses { OnOk result (AppendsUses cowns.now self.old.uses.items self.new.uses.items) }
+    {
         for cown in cowns {
             let before = match self.latest.insert(*cown, number)? {
                 Some(before) => before,
@@ -338,7 +520,10 @@ impl Table {
     }
 
     // Notes an event of the window.
-    fn note(&mut self, place: usize, deed: Deed) -> Result<(), StreamFaultKind> {
+    fn note(&mut self, place: usize, deed: Deed) -> Result<(), StreamFaultKind>
+        ensures rows { self.new.rows.items ≡ self.old.rows.items }
+        ensures uses { self.new.uses.items ≡ self.old.uses.items }
+    {
         match self.log.push(Happened { place, deed }) {
             Ok(()) => Ok(()),
             Err(_) => Err(StreamFaultKind::Memory),
@@ -346,16 +531,26 @@ impl Table {
     }
 
     // Drops ended rows where there are many, and sees that one more row with this number of cowns is within the limits.
-    fn make_room(&mut self, more: usize) -> Result<(), StreamFaultKind> {
-        if !self.is_cut {
-            let ended = self.rows.len().saturating_sub(self.alive);
-            let most = self.alive.saturating_mul(2).saturating_add(SLACK);
-            if ended > most || self.uses.len().saturating_add(more) > MOST_USES {
-                self.drop_ended()?;
-            }
-            if self.alive >= MOST_ALIVE {
-                return Err(StreamFaultKind::ManyAlive);
-            }
+    fn make_room(&mut self, more: usize) -> Result<(), StreamFaultKind>
+        ensures { OnOk result (KeepsSpawned self.old.rows.items self.old.uses.items self.new.rows.items self.new.uses.items) }
+    {
+        if self.is_full(more) {
+            self.drop_ended()?;
+        }
+        self.judge_room(more)
+    }
+
+    // Returns whether the rows that have ended are to be dropped before one more row with this number of cowns.
+    fn is_full(&self, more: usize) -> bool {
+        let ended = self.rows.len().saturating_sub(self.alive);
+        let most = self.alive.saturating_mul(2).saturating_add(SLACK);
+        !self.is_cut && (ended > most || self.uses.len().saturating_add(more) > MOST_USES)
+    }
+
+    // Sees that one more row with this number of cowns is within the limits.
+    fn judge_room(&self, more: usize) -> Result<(), StreamFaultKind> {
+        if !self.is_cut && self.alive >= MOST_ALIVE {
+            return Err(StreamFaultKind::ManyAlive);
         }
         if self.uses.len().saturating_add(more) > MOST_USES {
             return Err(StreamFaultKind::ManyCowns);
@@ -364,7 +559,9 @@ impl Table {
     }
 
     // Drops the rows that have ended, before the window begins.
-    fn drop_ended(&mut self) -> Result<(), StreamFaultKind> {
+    fn drop_ended(&mut self) -> Result<(), StreamFaultKind>
+        ensures { OnOk result (KeepsSpawned self.old.rows.items self.old.uses.items self.new.rows.items self.new.uses.items) }
+    {
         let alloc = *self.rows.allocator();
         match self.kept(alloc) {
             Ok((rows, uses, latest)) => {
@@ -380,48 +577,73 @@ impl Table {
         }
     }
 
-    // Returns the rows that have not ended, with their cowns, and the last of them on each cown.
-    fn kept(
+    // Puts the row at a place after others, with its uses, unless it has ended.
+    fn keep_row(
         &self,
-        alloc: Global,
-    ) -> Result<(Vec<Row>, Vec<CownUse>, HashMap<u64, u64>), AllocError> {
+        place: usize,
+        rows: &mut Vec<Row>,
+        uses: &mut Vec<CownUse>,
+        latest: &mut HashMap<u64, u64>,
+    ) -> Result<(), AllocError>
+        ensures { OnOk result (KeepsSpawned self.now.rows.items self.now.uses.items rows.old.items uses.old.items
+            → KeepsSpawned self.now.rows.items self.now.uses.items rows.new.items uses.new.items) }
+    {
+        if place >= self.rows.len() {
+            return Ok(());
+        }
+        let row = self.rows[place];
+        if row.life == Life::Ended {
+            return Ok(());
+        }
+        let from = uses.len();
+        keep_uses(latest, uses, row.number, self.uses_of(&row))?;
+        rows.push(Row {
+            from,
+            to: uses.len(),
+            ..row
+        })?;
+        Ok(())
+    }
+
+    // Returns the rows that have not ended, with their cowns, and the last of them on each cown.
+    fn kept(&self, alloc: Global) -> Result<(Vec<Row>, Vec<CownUse>, HashMap<u64, u64>), AllocError>
+        ensures { IfOk result (λ kept. KeepsSpawned self.now.rows.items self.now.uses.items kept.0.items kept.1.items) }
+    {
         let mut rows = Vec::new(alloc);
         let mut uses = Vec::new(alloc);
         let mut latest = HashMap::new(alloc);
-        for row in self.rows.iter() {
-            if row.life != Life::Ended {
-                let from = uses.len();
-                for used in self.uses_of(row).iter() {
-                    latest.insert(used.cown, row.number)?;
-                    uses.push(*used)?;
-                }
-                let mut moved = *row;
-                moved.from = from;
-                moved.to = uses.len();
-                rows.push(moved)?;
-            }
+        for place in 0..self.rows.len() {
+            self.keep_row(place, &mut rows, &mut uses, &mut latest)?;
         }
         Ok((rows, uses, latest))
     }
 
     // Begins the window.
-    fn cut(&mut self) -> Result<(), StreamFaultKind> {
+    fn cut(&mut self) -> Result<(), StreamFaultKind>
+        ensures { OnOk result (KeepsSpawned self.old.rows.items self.old.uses.items self.new.rows.items self.new.uses.items) }
+    {
         self.drop_ended()?;
+        self.carried = self.rows.len();
+        if self.carried >= MOST_ROWS {
+            return Err(StreamFaultKind::ManyAlive);
+        }
+        self.open();
+        Ok(())
+    }
+
+    // Begins the window with the rows that there are.
+    fn open(&mut self)
+        ensures rows { AreSameRows self.old.rows.items self.new.rows.items }
+        ensures uses { self.new.uses.items ≡ self.old.uses.items }
+    {
         let has_main = match (self.main, self.rows.first()) {
             (Some(main), Some(first)) => main == first.number,
             (None, _) => true,
             _ => false,
         };
-        self.carried = self.rows.len();
-        if self.carried >= MOST_ROWS {
-            return Err(StreamFaultKind::ManyAlive);
-        }
-        for row in self.rows.iter_mut() {
-            if row.life == Life::Running {
-                row.progress = row.last;
-                row.ran = true;
-            }
-            self.newest = row.number;
+        carry(&mut self.rows);
+        if let Some(last) = self.rows.last() {
+            self.newest = last.number;
         }
         let stand_in = usize::from(!has_main);
         let helped = self.carried.saturating_sub(usize::from(has_main));
@@ -436,11 +658,13 @@ impl Table {
             None => room as u64,
         });
         self.is_cut = true;
-        Ok(())
     }
 
     /// Takes a start.
-    pub fn start(&mut self, number: u64) -> Result<(), StreamFaultKind> {
+    pub fn start(&mut self, number: u64) -> Result<(), StreamFaultKind>
+        ensures rows { OnOk result (AreSameRows self.old.rows.items self.new.rows.items) }
+        ensures uses { self.new.uses.items ≡ self.old.uses.items }
+    {
         if self.is_beyond(number) {
             return self.judge_beyond(number, StreamFaultKind::StartNotAllowed);
         }
@@ -456,9 +680,11 @@ impl Table {
         if !self.is_free(row) {
             return Err(StreamFaultKind::StartNotAllowed);
         }
-        if let Some(row) = self.rows.get_mut(place) {
-            row.life = Life::Running;
-        }
+        let started = Row {
+            life: Life::Running,
+            ..*row
+        };
+        put_row(&mut self.rows, place, started);
         if self.is_cut {
             self.note(place, Deed::Started)?;
         }
@@ -491,7 +717,10 @@ impl Table {
         ticks: u64,
         status: EndStatus,
         written: &[u64],
-    ) -> Result<(), StreamFaultKind> {
+    ) -> Result<(), StreamFaultKind>
+        ensures rows { OnOk result (AreSameRows self.old.rows.items self.new.rows.items) }
+        ensures uses { cowns_used self.new.uses.items ≡ cowns_used self.old.uses.items }
+    {
         if self.is_beyond(number) {
             return self.judge_beyond(number, StreamFaultKind::EndNotAllowed);
         }
@@ -502,18 +731,19 @@ impl Table {
             return Err(StreamFaultKind::EndNotAllowed);
         };
         let row = *row;
-        if row.life != Life::Running
-            || ticks == 0
-            || ticks < row.last
-            || !self.write(row, written)
-        {
+        if row.life != Life::Running || ticks == 0 || ticks < row.last {
             return Err(StreamFaultKind::EndNotAllowed);
         }
-        if let Some(row) = self.rows.get_mut(place) {
-            row.life = Life::Ended;
-            row.ticks = ticks;
-            row.status = status;
+        if !self.write(row, written) {
+            return Err(StreamFaultKind::EndNotAllowed);
         }
+        let ended = Row {
+            life: Life::Ended,
+            ticks,
+            status,
+            ..row
+        };
+        put_row(&mut self.rows, place, ended);
         self.alive = self.alive.saturating_sub(1);
         if self.is_cut {
             self.note(place, Deed::Ended)?;
@@ -522,23 +752,15 @@ impl Table {
     }
 
     // Marks the cowns that a row wrote, and says whether they rise and are its own.
-    fn write(&mut self, row: Row, written: &[u64]) -> bool {
+    fn write(&mut self, row: Row, written: &[u64]) -> bool
+        ensures rows { self.new.rows.items ≡ self.old.rows.items }
+        ensures uses { cowns_used self.new.uses.items ≡ cowns_used self.old.uses.items }
+    {
         let is_all = self.version == Version::First;
         if row.from > row.to || row.to > self.uses.len() {
             return false;
         }
-        let uses = &mut self.uses[row.from..row.to];
-        let mut rest = written;
-        for used in uses.iter_mut() {
-            match rest {
-                [first, others @ ..] if *first == used.cown => {
-                    used.is_written = true;
-                    rest = others;
-                }
-                _ => used.is_written = is_all,
-            }
-        }
-        rest.is_empty()
+        mark_written(&mut self.uses, row.from, row.to, written, is_all)
     }
 
     /// Returns whether the first row of the run is one of the window.

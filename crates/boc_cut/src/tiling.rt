@@ -87,11 +87,24 @@ impl Places {
         Ok(())
     }
 
-    // Returns the place with the fewest rows alive that is within reach of a rank, or the one that is nearest.
-    fn best(&self, rank: u64, reach: u64) -> Place {
+    // Returns how many places are before those within reach of a rank; of the given number it is known.
+    fn count_before(&self, known: usize, rank: u64, reach: u64) -> usize {
+        let least = rank.saturating_sub(reach);
+        for number in known..self.list.len() {
+            if self.list[number].rank >= least {
+                return number;
+            }
+        }
+        self.list.len()
+    }
+
+    // Returns the place with the fewest rows alive that is within reach of a rank, or the one that is nearest. The given number of places
+    // are before those within reach. Ranks rise, so only the last of these and those up to the first behind can be the nearest.
+    fn best(&self, before: usize, rank: u64, reach: u64) -> Place {
         let mut best = Place { rank: 0, alive: 0 };
         let mut away = u64::MAX;
-        for place in self.list.iter() {
+        for number in before.saturating_sub(1)..self.list.len() {
+            let place = self.list[number];
             let far = place.rank.abs_diff(rank);
             let is_near = far <= reach;
             let was_near = away <= reach;
@@ -101,8 +114,11 @@ impl Places {
                 far < away
             };
             if is_better {
-                best = *place;
+                best = place;
                 away = far;
+            }
+            if place.rank > rank && !is_near {
+                return best;
             }
         }
         best
@@ -127,8 +143,11 @@ fn tiles_of(
     let mut tiles: Vec<Tile> = Vec::new(alloc);
     let width = rank / u64::from(count.max(1));
     let mut from = Place { rank: 0, alive: 0 };
+    let mut before = 0;
     for number in 1..count.max(1) {
-        let next = places.best(width.saturating_mul(u64::from(number)), width / 4);
+        let even = width.saturating_mul(u64::from(number));
+        before = places.count_before(before, even, width / 4);
+        let next = places.best(before, even, width / 4);
         if next.rank > from.rank {
             let rows = next.rank.saturating_sub(from.rank);
             tiles.push(Tile {

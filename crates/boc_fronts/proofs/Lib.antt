@@ -1,0 +1,11 @@
+pub mod AlongLogs
+pub mod Commuting
+pub mod Orderly
+pub mod Claiming
+pub mod Layers
+pub mod WishesLeft
+pub mod Swapping
+pub mod LooseSteps
+pub mod Arranging
+pub mod Opening
+pub mod OrdersRun

@@ -1,0 +1,5 @@
+pub mod Marked
+pub mod Apart
+pub mod Closed
+pub mod Rows
+pub mod examples

@@ -1,0 +1,4 @@
+//! Fewer fronts that have all ends.
+#![tactic(auto)]
+
+pub mod laws;

@@ -1,0 +1,12 @@
+pub mod Truths
+pub mod Listed
+pub mod Named
+pub mod Wishing
+pub mod Footing
+pub mod Followed
+pub mod Rounds
+pub mod Passing
+pub mod Spawning
+pub mod Tabled
+pub mod Taking
+pub mod examples

@@ -1,0 +1,4 @@
+pub mod Whens
+pub mod Footprints
+pub mod Spreading
+pub mod Tables

@@ -1,0 +1,12 @@
+pub mod Seeing
+pub mod Wishing
+pub mod Fitting
+pub mod Adding
+pub mod Spawned
+pub mod Ready
+pub mod Choosing
+pub mod Layering
+pub mod EndsOfLayers
+pub mod Noting
+pub mod Searching
+pub mod Putting

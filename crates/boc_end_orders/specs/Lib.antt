@@ -1,0 +1,4 @@
+pub mod Orders
+pub mod TrailView
+pub mod Traces
+pub mod Runs

@@ -1,0 +1,4 @@
+pub mod Standing
+pub mod Settling
+pub mod Spawning
+pub mod WholeRuns

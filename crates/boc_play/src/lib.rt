@@ -1,0 +1,6 @@
+//! A run of a program whose rows are spawned in a given order.
+#![tactic(auto)]
+
+mod playing;
+
+pub use playing::play;

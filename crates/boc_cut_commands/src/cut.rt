@@ -1,8 +1,9 @@
 // The command `cut`.
 
-ghost use Rattle.std.specs.Prelude.{◌≡◌, ◌<◌, IfErr};
+ghost use Rattle.std.specs.Prelude.{◌≡◌, ◌<◌, ℕ, List, Option, None, IfOk, IfErr};
 ghost use Rattle.boc_run_commands.specs.Commands.{CountsSource, CountsSink, Leaves};
-ghost use Rattle.boc_cut_commands.specs.CutAnswers.{IsCutAnswer, IsOfNames, IsOfWindow, RefusesWindow, is_device};
+ghost use Rattle.boc_cut.specs.Cuts.{IsWindowOf, RefusesCut};
+ghost use Rattle.boc_cut_commands.specs.CutAnswers.{IsCutAnswer, IsOfNames, IsOfWindow, RefusesWhole, RefusesWindow, is_device};
 ghost use Rattle.boc_run_commands.specs.Faults.{is_source};
 
 use crate::notes::notes_on_window;
@@ -36,8 +37,10 @@ pub fn cut_cmd<S: Source, W: Sink>(
 ) -> Result<(), Fault>
     requires source { S.failures source.old < u64.MAX }
     requires sink { W.failures sink.old < u64.MAX }
-    ensures written { Leaves IsCutAnswer result (W.written sink.old) (W.written sink.new) }
+    ensures written { Leaves (IsCutAnswer asked.from asked.rows (S.remaining source.old) (S.remaining source.new)) result
+        (W.written sink.old) (W.written sink.new) }
     ensures refused { RefusesWindow result }
+    ensures whole { asked.from ≡ 0 → asked.rows ≡ None → files.now ≡ None → IfErr result (λ fault. RefusesWhole fault (S.remaining source.old)) }
     ensures source { CountsSource result (S.failures source.old) (S.failures source.new) }
     ensures sink { CountsSink result (W.failures sink.old) (W.failures sink.new) }
 {
@@ -62,16 +65,25 @@ fn window_cut<S: Source>(
     source: &mut S,
 ) -> Result<Window, Fault>
     requires { S.failures source.old < u64.MAX }
+    ensures window { IfOk result (λ window. IsWindowOf asked.from asked.rows (S.remaining source.old) (S.remaining source.new)
+        window.record window.origins.items) }
     ensures refused { IfErr result IsOfWindow }
+    ensures whole { asked.from ≡ 0 → asked.rows ≡ None → IfErr result (λ fault. RefusesWhole fault (S.remaining source.old)) }
     ensures source { CountsSource result (S.failures source.old) (S.failures source.new) }
 {
-    let rows = match asked.rows {
-        Some(rows) => Some(u64::from(rows)),
-        None => None,
-    };
-    match cut(alloc, source, asked.from, rows, progress) {
+    match cut(alloc, source, asked.from, rows_asked(asked), progress) {
         Ok(window) => Ok(window),
         Err(fault) => Err(fault_of_cut(fault)),
+    }
+}
+
+// Returns how many rows are requested at most.
+fn rows_asked(asked: AskedCut) -> Option<u64>
+    ensures { result ≡ asked.rows }
+{
+    match asked.rows {
+        Some(rows) => Some(u64::from(rows)),
+        None => None,
     }
 }
 
@@ -79,6 +91,7 @@ fn window_cut<S: Source>(
 pub(crate) fn fault_of_cut(fault: CutFault) -> Fault
     ensures refused { IsOfWindow result }
     ensures source { is_source result ≡ is_device fault }
+    ensures whole { (before : Option (List ℕ)) → RefusesCut fault before → RefusesWhole result before }
 {
     match fault {
         CutFault::Stream(fault) => Fault::from(fault),

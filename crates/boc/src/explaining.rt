@@ -406,6 +406,7 @@ fn name_of(command: &Command) -> &'static str {
         Command::Compare { .. } => "compare",
         Command::CompareRuns { .. } => "compare --runs",
         Command::Outcomes(_) => "outcomes",
+        Command::AllEnds(_) | Command::EndRun { .. } => "outcomes --all",
         Command::Help(_) | Command::Version => "boc",
     }
 }

@@ -11,3 +11,4 @@ pub mod OneChange
 pub mod OneOfEither
 pub mod OneMeasured
 pub mod OneCompared
+pub mod OneSearch

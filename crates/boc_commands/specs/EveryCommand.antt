@@ -1,5 +1,5 @@
 -- What every command answers, and what it refuses.
-use Rattle.std.specs.Prelude.{◌≡◌, ℕ, List, [], Option, Some, None, option_map, Result, Err, string_bytes}
+use Rattle.std.specs.Prelude.{◌≡◌, ℕ, List, [], Option, Some, None, option_map, IfErr, Result, Err, string_bytes}
 use Rattle.std.specs.Io.KnownBytes.{Keeps}
 use Rattle.boc_words.specs.declared.version.TheConstants.{VERSION}
 use Rattle.boc_words.specs.declared.words.Command.{Command}
@@ -9,7 +9,9 @@ use Rattle.boc_words.specs.declared.asked.WhatIfFile.{WhatIfFile}
 use Rattle.boc_words.specs.declared.asked.WhatIfFile.TheVariants as named
 use Rattle.boc_words.specs.declared.asked.RunFile.{RunFile}
 use Rattle.boc_words.specs.declared.asked.RunFile.TheVariants as files
-use Rattle.boc_cut_commands.specs.CutAnswers.{IsCutAnswer, IsTilesAnswer, RefusesWindow}
+use Rattle.boc_all_ends_commands.specs.AllEndsAnswers.{IsAllEndsAnswer, RefusesSearch}
+use Rattle.boc_all_ends_commands.specs.EndRunAnswers.{IsEndRunAnswer, RefusesEndRun}
+use Rattle.boc_cut_commands.specs.CutAnswers.{IsCutAnswer, IsTilesAnswer, RefusesWhole, RefusesWindow}
 use Rattle.boc_run_commands.specs.declared.fault.Fault.{Fault}
 use Rattle.boc_run_commands.specs.Answers.{IsCheckAnswer}
 use Rattle.boc_run_commands.specs.Commands.{AnswersInput, RefusesNothing, RefusesProgram, RefusesRecord, RefusesRun}
@@ -67,7 +69,7 @@ AnswersCommand (commands.Values None quiet) beside pair notes before after text 
 AnswersCommand (commands.Values (Some path) quiet) beside pair notes before after text = AnswersInput (TellsValuesAfter beside quiet notes) before after text
 AnswersCommand (commands.Check None) beside pair notes before after text = AnswersInput IsCheckAnswer before after text
 AnswersCommand (commands.Check (Some path)) beside pair notes before after text = AnswersInput (IsCheckAgainstAnswer beside) before after text
-AnswersCommand (commands.Cut asked names) beside pair notes before after text = IsCutAnswer text
+AnswersCommand (commands.Cut asked names) beside pair notes before after text = IsCutAnswer asked.from asked.rows before after text
 AnswersCommand (commands.Tiles count) beside pair notes before after text = IsTilesAnswer count text
 AnswersCommand (commands.Run schedule quiet) beside pair notes before after text = AnswersInput (TellsRun schedule quiet notes) before after text
 AnswersCommand (commands.Profile asked record_path) beside pair notes before after text =
@@ -86,6 +88,8 @@ AnswersCommand (commands.Compare asked files) beside pair notes before after tex
 AnswersCommand (commands.CompareRuns asked path) beside pair notes before after text =
     AnswersInput (IsCompareRunsAnswer asked pair.after.items) before after text
 AnswersCommand (commands.Outcomes draws) beside pair notes before after text = AnswersInput (IsOutcomesAnswer draws) before after text
+AnswersCommand (commands.AllEnds most) beside pair notes before after text = AnswersInput (IsAllEndsAnswer most) before after text
+AnswersCommand (commands.EndRun most number) beside pair notes before after text = AnswersInput (IsEndRunAnswer most number) before after text
 AnswersCommand (commands.Help help) beside pair notes before after text = (text ≡ string_bytes help) × Keeps before after
 AnswersCommand commands.Version beside pair notes before after text = (text ≡ VERSION.now) × Keeps before after
 
@@ -113,7 +117,8 @@ RefusesCommand always_on (commands.Values None quiet) beside pair which result b
 RefusesCommand always_on (commands.Values (Some path) quiet) beside pair which result before after = RefusesValuesAfter beside result before after
 RefusesCommand always_on (commands.Check None) beside pair which result before after = RefusesRecord result before
 RefusesCommand always_on (commands.Check (Some path)) beside pair which result before after = RefusesAgainst beside result before
-RefusesCommand always_on (commands.Cut asked names) beside pair which result before after = RefusesWindow result
+RefusesCommand always_on (commands.Cut asked names) beside pair which result before after =
+    RefusesWindow result × (asked.from ≡ 0 → asked.rows ≡ None → names ≡ None → IfErr result (λ fault. RefusesWhole fault before))
 RefusesCommand always_on (commands.Tiles count) beside pair which result before after = RefusesWindow result
 RefusesCommand always_on (commands.Run schedule quiet) beside pair which result before after = RefusesRun always_on schedule result before after
 RefusesCommand always_on (commands.Profile asked record_path) beside pair which result before after =
@@ -140,5 +145,7 @@ RefusesCommand always_on (commands.Compare asked files) beside pair which result
 RefusesCommand always_on (commands.CompareRuns asked path) beside pair which result before after =
     RefusesCompareRuns asked pair.after.items which result before after
 RefusesCommand always_on (commands.Outcomes draws) beside pair which result before after = RefusesDraws draws result before after
+RefusesCommand always_on (commands.AllEnds most) beside pair which result before after = RefusesSearch result before after
+RefusesCommand always_on (commands.EndRun most number) beside pair which result before after = RefusesEndRun most number result before after
 RefusesCommand always_on (commands.Help help) beside pair which result before after = RefusesNothing result
 RefusesCommand always_on commands.Version beside pair which result before after = RefusesNothing result

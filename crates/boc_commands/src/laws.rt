@@ -1,6 +1,6 @@
 //! What is promised of every run and of the plans of its rows, and that an input has one answer.
 
-ghost use Rattle.std.specs.Prelude.{◌≡◌, ℕ, List, Option, None, Some, false, slice_get};
+ghost use Rattle.std.specs.Prelude.{◌≡◌, ℕ, List, Option, None, Some, false, true, slice_get};
 ghost use Rattle.boc_words.specs.declared.asked.AskedChanges.{AskedChanges};
 ghost use Rattle.boc_words.specs.declared.asked.AskedDraws.{AskedDraws};
 ghost use Rattle.boc_words.specs.declared.asked.AskedPlans.{AskedPlans};
@@ -18,6 +18,8 @@ ghost use Rattle.boc_workers.specs.Noting.{CanReachLimit};
 ghost use Rattle.boc_run_commands.specs.Schedules.{IsDrawFault, IsDrawnBy, IsScheduledText};
 ghost use Rattle.boc_plans.specs.Seen.{seen};
 ghost use Rattle.boc_reader.specs.Spells.{Spells};
+ghost use Rattle.boc_all_ends_report.specs.EndTexts.{told_ends};
+ghost use Rattle.boc_all_ends_commands.specs.AllEndsAnswers.{IsAllEndsAnswer};
 ghost use Rattle.boc_run_commands.specs.Answers.{IsReport, IsValuesAnswer, IsCheckAnswer, IsProfileAnswer, IsCurveAnswer, IsSweepAnswer};
 ghost use Rattle.boc_plan_commands.specs.BestAnswers.{IsBestAnswer};
 ghost use Rattle.boc_run_commands.specs.Beside.{IsCheckAgainstAnswer, IsValuesAfterAnswer};
@@ -73,6 +75,14 @@ pub fn input_has_one_answer()
         → IsBestAnswer sharing over most input other → output ≡ other }
     ensures outcomes { (draws : AskedDraws) (input output other : List ℕ) → IsOutcomesAnswer draws input output → IsOutcomesAnswer draws input other
         → output ≡ other }
+{}
+
+/// Proves that a text has one answer of `outcomes --all` if the search goes through, whatever its limit, except for how many fronts it looked at. The answer
+/// is the ends of one program, with their rows, and whether some run needs more rows than there may be.
+pub fn ends_are_one()
+    ensures { (most other : ℕ) (input output another : List ℕ) (a : IsAllEndsAnswer most input output) (b : IsAllEndsAnswer other input another)
+        → a.found.whole ≡ true → b.found.whole ≡ true
+        → told_ends a.program.cowns a.found.endless a.found.all.items ≡ told_ends b.program.cowns b.found.endless b.found.all.items }
 {}
 
 /// Proves that the seed of an outcome repeats its run: where the program is run as that seed draws, for as many workers and at the same depth, the run ends

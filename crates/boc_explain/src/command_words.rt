@@ -15,7 +15,7 @@ use strsim::osa_distance;
 // The options with a value, which is the word after them.
 const WITH_VALUE: &str =
     "--workers -w --seed --depth --runs --p -p --best --top --then --without --early --program --record --names --names-a --names-b --from --rows --tiles \
-     --out-names";
+     --out-names --most --end";
 
 // The command whose words are edits too.
 const WHATIF: &[u8] = b"whatif";

@@ -77,6 +77,7 @@ refused_measured names changes rows measured (Err fault) are is = go fault is
     go (faults.Run r) w = of (faults.Run r) w
     go faults.Unscheduled w = of faults.Unscheduled w
     go (faults.Window c) w = of (faults.Window c) w
+    go (faults.End c) w = of (faults.End c) w
 
 not_true : (b : Bool) → not b ≡ true → b ≡ false
 not_true false is = refl

@@ -116,6 +116,7 @@ unnamed_as always_on schedule supplied file read text (Err f) fault is reads h w
     go (faults.Run r) w = w
     go faults.Unscheduled w = w
     go (faults.Window c) w = w
+    go (faults.End c) w = w
     go (faults.Means r) w = w
 
 -- ---- what goes out
@@ -169,6 +170,7 @@ refused_program IsOfRecord IsOfProgram (Err f) fault before after text h takes w
     go (faults.Run r) w = inr (text, takes, w)
     go faults.Unscheduled w = inr (text, takes, w)
     go (faults.Window c) w = inr (text, takes, w)
+    go (faults.End c) w = inr (text, takes, w)
 
 -- what begins as no program does is refused as a record
 pub refused_record : (Refuses : Result (Unit {0}) Fault → Option (List ℕ) → Type 0) (IsOfProgram : List ℕ → Fault → Type 0) (result : Result (Unit {0}) Fault)
@@ -185,6 +187,7 @@ refused_record Refuses IsOfProgram (Err f) before between after begins kept wron
     go (faults.Run r) w = inl (begins, (between, kept, w))
     go faults.Unscheduled w = inl (begins, (between, kept, w))
     go (faults.Window c) w = inl (begins, (between, kept, w))
+    go (faults.End c) w = inl (begins, (between, kept, w))
 
 -- ---- what is taken
 

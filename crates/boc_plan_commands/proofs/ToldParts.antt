@@ -138,6 +138,7 @@ whatif_refused always_on schedule supplied file changes IsOfRecord (Err fault) b
     go (faults.Run r) w = inr (text, takes, of (faults.Run r) w)
     go faults.Unscheduled w = inr (text, takes, of faults.Unscheduled w)
     go (faults.Window c) w = inr (text, takes, of (faults.Window c) w)
+    go (faults.End c) w = inr (text, takes, of (faults.End c) w)
 
 -- ---- a record with a file of names
 

@@ -40,6 +40,7 @@ refused_before file bytes changes (Err f) fault before h is =
     go None (faults.Run r) is = is
     go None faults.Unscheduled is = is
     go None (faults.Window c) is = is
+    go None (faults.End c) is = is
     go None (faults.Means w) is = is
     go (Some (names_from.Program path)) (faults.Input (inputs.Cown n)) is = absurd is
     go (Some (names_from.Program path)) (faults.Input (inputs.Early n)) is = absurd is
@@ -56,6 +57,7 @@ refused_before file bytes changes (Err f) fault before h is =
     go (Some (names_from.Program path)) (faults.Run r) is = is
     go (Some (names_from.Program path)) faults.Unscheduled is = is
     go (Some (names_from.Program path)) (faults.Window c) is = is
+    go (Some (names_from.Program path)) (faults.End c) is = is
     go (Some (names_from.Program path)) (faults.Means w) is = is
     go (Some (names_from.Record path)) (faults.Input (inputs.Cown n)) is = absurd is
     go (Some (names_from.Record path)) (faults.Input (inputs.Early n)) is = absurd is
@@ -69,6 +71,7 @@ refused_before file bytes changes (Err f) fault before h is =
     go (Some (names_from.Record path)) (faults.Run r) is = is
     go (Some (names_from.Record path)) faults.Unscheduled is = is
     go (Some (names_from.Record path)) (faults.Window c) is = is
+    go (Some (names_from.Record path)) (faults.End c) is = is
     go (Some (names_from.Record path)) (faults.Means w) is = is
     go (Some (names_from.Names path)) (faults.Input (inputs.Cown n)) is = absurd is
     go (Some (names_from.Names path)) (faults.Input (inputs.Early n)) is = absurd is
@@ -85,6 +88,7 @@ refused_before file bytes changes (Err f) fault before h is =
     go (Some (names_from.Names path)) (faults.Run r) is = is
     go (Some (names_from.Names path)) faults.Unscheduled is = is
     go (Some (names_from.Names path)) (faults.Window c) is = is
+    go (Some (names_from.Names path)) (faults.End c) is = is
     go (Some (names_from.Names path)) (faults.Means w) is = is
 
 -- want of memory and of a device are never a refusal
@@ -131,6 +135,7 @@ refused_asked file bytes changes run (Err fault) before after read h = go fault 
     go (faults.Run r) is = absurd (neither (λ no. no) (neither (λ after. after.unmeant) (λ after. after.unfit)) is.unfit)
     go faults.Unscheduled is = absurd (neither (λ no. no) (neither (λ after. after.unmeant) (λ after. after.unfit)) is.unfit)
     go (faults.Window c) is = absurd (neither (λ no. no) (neither (λ after. after.unmeant) (λ after. after.unfit)) is.unfit)
+    go (faults.End c) is = absurd (neither (λ no. no) (neither (λ after. after.unmeant) (λ after. after.unfit)) is.unfit)
 
 -- what goes out of it answers the input
 pub written_named : (file : Option WhatIfFile) (bytes : List ℕ) (changes : AskedChanges) (sharing : Sharing) (plans : AskedPlans)

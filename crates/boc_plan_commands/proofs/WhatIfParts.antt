@@ -1,6 +1,7 @@
 -- What is supposed of rows, and what is told of it.
 use Rattle.std.proofs.Common.{◌≡◌, ◌≢◌, ◌∙◌, ◌+◌, ◌<◌, ◌==◌, ℕ, Bool, true, false, true≢false, List, [], ◌∷◌, ◌++◌, String, length, map, take, get_or}
-use Rattle.std.proofs.Common.{Option, Result, Ok, Err, inr, ap, refl, sym, subst, arith}
+use Rattle.std.proofs.KnownBytes.{Keeps-refl}
+use Rattle.std.proofs.Common.{Option, None, Result, Ok, Err, inl, inr, ap, refl, sym, subst, arith}
 use Rattle.std.specs.Prelude.{All, MatchResult, filter, string_bytes}
 use Rattle.std.specs.Global.{Global}
 use Rattle.std.specs.Int.{from_bool}
@@ -26,7 +27,8 @@ use Rattle.boc_run_commands.specs.declared.fault.Fault.{Fault}
 use Rattle.boc_run_commands.specs.declared.fault.Fault.TheVariants as faults
 use Rattle.boc_run_commands.specs.declared.fault.Want.TheVariants as means
 use Rattle.boc_plan_commands.specs.Asked.{AreAskedEarly, AreAskedFor, AreMadeEarly, IsOfEdits, all_cowns, cowns_of, is_of, marks_of, rows_of}
-use Rattle.boc_run_commands.specs.Commands.{CountsSource}
+use Rattle.boc_run_commands.specs.Commands.{CountsSource, Leaves, LeavesAfter}
+use Rattle.boc_run_commands.specs.Faults.{gone_of}
 use Rattle.boc_plan_commands.specs.WhatIfAnswers.{AreChangedSo, IsOfAsked, IsOutcome, IsShortAnswer}
 
 -- ---- as many rows
@@ -158,3 +160,25 @@ pub keeps_source : (result : Result (Unit {0}) Fault) (gone : ℕ) → IsErrAnd 
     → CountsSource result count count
 keeps_source (Ok done) gone is count = absurd is
 keeps_source (Err f) gone is count = subst (λ (x : Fault). CountsSource {A = Unit {0}} (Err x) count count) (sym is) refl
+
+-- a fault of what is asked for is none of the sink
+none_gone : (names : Names) (changes : AskedChanges) (rows : List Row) (fault : Fault) → IsOfAsked names changes rows fault → gone_of fault ≡ None
+none_gone names changes rows (faults.Words w) is = refl
+none_gone names changes rows (faults.Input i) is = refl
+none_gone names changes rows (faults.Run r) is = refl
+none_gone names changes rows faults.Unscheduled is = refl
+none_gone names changes rows (faults.Window w) is = refl
+none_gone names changes rows (faults.End e) is = refl
+none_gone names changes rows (faults.Means means.Memory) is = refl
+none_gone names changes rows (faults.Means means.Source) is = refl
+none_gone names changes rows (faults.Means (means.Sink gone)) (inl cowns) = absurd cowns
+none_gone names changes rows (faults.Means (means.Sink gone)) (inr (inl early)) = absurd early.unmeant
+none_gone names changes rows (faults.Means (means.Sink gone)) (inr (inr edits)) = absurd edits.unfit
+
+-- so nothing goes out with it
+pub leaves_unfit : (IsText : List ℕ → Type 0) (names : Names) (changes : AskedChanges) (rows : List Row) (result : Result (Unit {0}) Fault) (fault : Fault)
+    (same : Option (List ℕ)) → IsErrAnd result (λ f. f ≡ fault) → IsOfAsked names changes rows fault → Leaves IsText result same same
+leaves_unfit IsText names changes rows (Ok done) fault same is of = absurd is
+leaves_unfit IsText names changes rows (Err f) fault same is of =
+    subst (λ (x : Fault). LeavesAfter IsText (gone_of x) same same) (sym is)
+    (subst (λ (gone : Option ℕ). LeavesAfter IsText gone same same) (sym (none_gone names changes rows fault of)) (Keeps-refl same))

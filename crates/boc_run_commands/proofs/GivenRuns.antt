@@ -188,4 +188,5 @@ refused_unnamed bytes (Err f) fault before h wrong =
     go (faults.Run r) w = w
     go faults.Unscheduled w = w
     go (faults.Window c) w = w
+    go (faults.End c) w = w
     go (faults.Means r) w = w

@@ -6,6 +6,7 @@ use Rattle.boc_run_commands.specs.declared.fault.InputFault.{InputFault}
 use Rattle.boc_run_commands.specs.declared.fault.InputFault.TheVariants as inputs
 use Rattle.boc_run_commands.specs.declared.fault.FileFault.{FileFault}
 use Rattle.boc_run_commands.specs.declared.fault.FileFault.TheVariants as files
+use Rattle.boc_run_commands.specs.declared.fault.EndFault.{EndFault}
 use Rattle.boc_run_commands.specs.declared.fault.Want.{Want}
 use Rattle.boc_run_commands.specs.declared.fault.Want.TheVariants as wants
 use Rattle.boc_plans.specs.declared.edit.EditFault.{EditFault}
@@ -60,6 +61,7 @@ status_of (faults.Input i) = 3
 status_of (faults.Run r) = 4
 status_of faults.Unscheduled = 4
 status_of (faults.Window w) = window_status w
+status_of (faults.End e) = 4
 status_of (faults.Means w) = 5
 
 -- the fault is want of memory or of a device
@@ -214,6 +216,10 @@ window_line (windows.Stream s) = numbered (codes "boc: line ") s.line (stream_ki
 window_line (windows.Names l) = numbered (codes "boc: names: line ") l.line (label_kind_line l.kind)
 window_line windows.Unmade = codes "boc: window: 1 Unmade"
 
+-- the two lines of an end that there is not: its number, and how many were found
+abbrev pub end_line : EndFault → List ℕ
+end_line e = codes "boc: end " ++ decimal e.number ++ codes ": 1 NoEnd\n     ends found: " ++ decimal e.found
+
 -- the line of what was wanting
 abbrev pub want_line : Want → List ℕ
 want_line wants.Memory = codes "boc: memory"
@@ -227,6 +233,7 @@ fault_line (faults.Input i) = Some (input_line i)
 fault_line (faults.Run r) = Some (codes "boc: run: " ++ run_line r)
 fault_line faults.Unscheduled = Some (codes "boc: run: 7 Unscheduled")
 fault_line (faults.Window w) = Some (window_line w)
+fault_line (faults.End e) = Some (end_line e)
 fault_line (faults.Means w) = Some (want_line w)
 
 -- a text is the line, where there is one

@@ -4,7 +4,7 @@ ghost use Rattle.std.specs.Prelude.{◌≡◌, ◌+◌, ◌≤◌, ◌++◌, IfO
 ghost use Rattle.std.specs.Option.{option_map};
 ghost use Rattle.boc_text.specs.declared.decimal.TheConstants.{MOST_DIGITS};
 ghost use Rattle.boc_run_commands.specs.declared.fault.TheConstants.{MOST_FAULT_LINE};
-ghost use Rattle.boc_run_commands.specs.Faults.{edit_line, file_line, input_line, run_line, want_line, window_line};
+ghost use Rattle.boc_run_commands.specs.Faults.{edit_line, end_line, file_line, input_line, run_line, want_line, window_line};
 
 use arrayvec::ArrayString;
 use boc_draws::DrawFault;
@@ -26,8 +26,8 @@ use thiserror::Error;
 /// The most bytes of what the program says of a fault in its own words.
 pub const MOST_FAULT_LINE: usize = 128;
 
-/// What the program says of a fault in its own words, without the last line feed: one line, or two for a word that is no edit
-/// and for a def that no row is of.
+/// What the program says of a fault in its own words, without the last line feed. It is one line, or two for a word that is no edit,
+/// a def that no row is of, or an end that there is not.
 pub type Line = ArrayString<MOST_FAULT_LINE>;
 
 /// Why a command was refused or failed. Its text is the line for standard error.
@@ -45,6 +45,8 @@ pub enum Fault {
     Unscheduled,
     /// No window was cut out of a stream.
     Window(WindowFault),
+    /// There is no end of the number whose run was asked for.
+    End(EndFault),
     /// Memory was refused, or a device failed.
     Means(Want),
 }
@@ -94,6 +96,15 @@ pub enum WindowFault {
     Unmade,
 }
 
+/// Why there is no run to an end: a search of all ends found none of this number.
+#[derive(Clone, Copy, PartialEq, Eq, Debug)]
+pub struct EndFault {
+    /// The number of the end that was asked for, counted from 1.
+    pub number: u32,
+    /// How many ends were found.
+    pub found: usize,
+}
+
 /// What was wanting.
 #[derive(Clone, Copy, PartialEq, Eq, Debug)]
 pub enum Want {
@@ -117,6 +128,7 @@ impl Fault {
             Fault::Words(_) => 2,
             Fault::Input(_) | Fault::Window(WindowFault::Stream(_) | WindowFault::Names(_)) => 3,
             Fault::Run(_) | Fault::Unscheduled | Fault::Window(WindowFault::Unmade) => 4,
+            Fault::End(_) => 4,
             Fault::Means(_) => 5,
         }
     }
@@ -148,6 +160,7 @@ impl Fault {
             Fault::Run(fault) => Some(joined("boc: run: ", run_text(*fault))),
             Fault::Unscheduled => Some(joined("boc: run: ", "7 Unscheduled")),
             Fault::Window(fault) => Some(window_text(fault)),
+            Fault::End(fault) => Some(end_text(fault)),
             Fault::Means(want) => Some(want_text(*want)),
         }
     }
@@ -196,6 +209,18 @@ fn window_text(fault: &WindowFault) -> Line
         WindowFault::Names(fault) => numbered("boc: names: line ", fault.line, fault.kind.text()),
         WindowFault::Unmade => joined("boc: window: ", "1 Unmade"),
     }
+}
+
+// Returns the two lines of an end that there is not.
+fn end_text(fault: &EndFault) -> Line
+    ensures { result.bytes ≡ end_line fault.now }
+{
+    let mut line = Line::new();
+    line.push_str("boc: end ");
+    line.push_str(Buffer::new().format(fault.number));
+    line.push_str(": 1 NoEnd\n     ends found: ");
+    line.push_str(Buffer::new().format(fault.found));
+    line
 }
 
 // Returns the line of a refused file given with an input.

@@ -18,7 +18,7 @@ mod values_after;
 
 pub use check::check_cmd;
 pub use check_against::check_against_cmd;
-pub use fault::{Fault, FileFault, InputFault, Line, Want, WindowFault};
+pub use fault::{EndFault, Fault, FileFault, InputFault, Line, Want, WindowFault};
 pub use named_run::{NamedRun, Origin};
 pub use outcomes::outcomes_cmd;
 pub use run::run_cmd;

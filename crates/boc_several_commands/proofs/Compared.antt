@@ -84,6 +84,7 @@ of_side always_on asked files pair input which (faults.Input i) is = is
 of_side always_on asked files pair input which (faults.Run r) is = is
 of_side always_on asked files pair input which faults.Unscheduled is = is
 of_side always_on asked files pair input which (faults.Window c) is = is
+of_side always_on asked files pair input which (faults.End c) is = is
 
 -- an input is refused for what was taken
 pub refused_compare : (always_on : Type 0) (asked : AskedCompare) (files : CompareFiles) (pair : Pair) (which : Which) (result : Result (Unit {0}) Fault)
@@ -101,3 +102,4 @@ refused_compare always_on asked files pair which (Err f) fault text before after
     go (faults.Run r) is = (text, taken, is)
     go faults.Unscheduled is = (text, taken, is)
     go (faults.Window c) is = (text, taken, is)
+    go (faults.End c) is = (text, taken, is)

@@ -112,6 +112,7 @@ of_first asked after_text input (faults.Input i) is = is
 of_first asked after_text input (faults.Run r) is = is
 of_first asked after_text input faults.Unscheduled is = is
 of_first asked after_text input (faults.Window c) is = is
+of_first asked after_text input (faults.End c) is = is
 
 -- a fault of the second side
 pub of_second : (asked : AskedRuns) (after_text input : Text) (fault : Fault) (before : DrawnSide) → IsDrawnSide asked input before
@@ -124,6 +125,7 @@ of_second asked after_text input (faults.Input i) before drawn is = record { bef
 of_second asked after_text input (faults.Run r) before drawn is = record { before = before; before_is = drawn; refused = is }
 of_second asked after_text input faults.Unscheduled before drawn is = record { before = before; before_is = drawn; refused = is }
 of_second asked after_text input (faults.Window c) before drawn is = record { before = before; before_is = drawn; refused = is }
+of_second asked after_text input (faults.End c) before drawn is = record { before = before; before_is = drawn; refused = is }
 
 -- a text is refused, the first for what was taken of it
 pub refused_either : (asked : AskedRuns) (after_text : Text) (which : Which) (result : Result (Unit {0}) Fault) (fault : Fault) (text : Text)
@@ -141,3 +143,4 @@ refused_either asked after_text which (Err f) fault text before after h reads is
     go (faults.Run r) is = record { input = text; taken = reads; known = is }
     go faults.Unscheduled is = record { input = text; taken = reads; known = is }
     go (faults.Window c) is = record { input = text; taken = reads; known = is }
+    go (faults.End c) is = record { input = text; taken = reads; known = is }

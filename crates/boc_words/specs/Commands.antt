@@ -7,7 +7,7 @@ use Rattle.clap.specs.Words.{App, Rule, Shape, Text, new_rule}
 use Rattle.clap.specs.declared.builder.action.ArgAction.TheVariants as actions
 use Rattle.clap.specs.declared.builder.value_parser.ValueParser.{ValueParser}
 use Rattle.clap.specs.declared.builder.value_parser.ValueParser.TheVariants as parsers
-use Rattle.boc_words.specs.declared.arguments.TheConstants.{MOST_CHANGES}
+use Rattle.boc_words.specs.declared.arguments.TheConstants.{MOST_CHANGES, MOST_FRONTS}
 use Rattle.boc_program.specs.declared.limits.TheConstants.{MOST_COWNS, MOST_DEPTH, MOST_ROWS, MOST_RUNNERS, MOST_RUNS, MOST_WORKERS}
 use Rattle.boc_words.specs.declared.arguments.Numbers.{Numbers}
 use Rattle.boc_words.specs.declared.arguments.Numbers.TheVariants.{UpTo, Every}
@@ -76,10 +76,18 @@ window_rows_option = record { id = codes "rows"; letter = None; numbers = UpTo M
 abbrev pub tiles_option : NumberOption
 tiles_option = record { id = codes "tiles"; letter = None; numbers = UpTo MOST_ROWS }
 
+-- `--most FRONTS`, of so many fronts at the most that a search of all ends looks at
+abbrev pub most_option : NumberOption
+most_option = record { id = codes "most"; letter = None; numbers = UpTo MOST_FRONTS }
+
+-- `--end K`, of the end of which a run is recorded
+abbrev pub end_option : NumberOption
+end_option = record { id = codes "end"; letter = None; numbers = UpTo MOST_FRONTS }
+
 -- every option with a number
 abbrev pub number_options : List NumberOption
 number_options = runners_option ∷ seed_option ∷ workers_option ∷ top_option ∷ depth_option ∷ runs_option ∷ best_option ∷ then_option ∷ from_option
-    ∷ window_rows_option ∷ tiles_option ∷ []
+    ∷ window_rows_option ∷ tiles_option ∷ most_option ∷ end_option ∷ []
 
 -- `--shared-reads`
 abbrev pub sharing_flag : Argument
@@ -97,7 +105,7 @@ spawns_flag = flag (codes "spawns")
 abbrev pub timed_flag : Argument
 timed_flag = flag (codes "timed")
 
--- `--all`, by which all of a chain is told
+-- `--all`, by which all of a chain is told, or all ends of a program are searched for
 abbrev pub all_flag : Argument
 all_flag = flag (codes "all")
 
@@ -215,8 +223,11 @@ signature_of kinds.Compare = (
   number runners_option ∷ number seed_option ∷ number depth_option ∷ timed_flag ∷ number workers_option ∷ sharing_flag ∷ typical_flag ∷ repeated names_file
       ∷ repeated before_names_file ∷ repeated after_names_file ∷ number runs_option ∷ quiet_flag ∷ needed before_operand ∷ needed after_operand ∷ [],
 )
-signature_of kinds.Outcomes =
-    (codes "outcomes", number runs_option ∷ number seed_option ∷ number runners_option ∷ number depth_option ∷ input_operand ∷ [])
+signature_of kinds.Outcomes = (
+  codes "outcomes",
+  number runs_option ∷ number seed_option ∷ number runners_option ∷ number depth_option ∷ all_flag ∷ number most_option ∷ number end_option
+      ∷ input_operand ∷ [],
+)
 
 -- the files that a command may read beside its input, of which it takes one
 abbrev pub files_of : Kind → List Text

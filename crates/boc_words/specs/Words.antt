@@ -27,7 +27,7 @@ use Rattle.boc_words.specs.declared.commands.Kind.TheVariants as called
 use Rattle.boc_words.specs.Commands.{Argument, IsNumberOf, NumberOption, commands_of_boc, number_options, shape_of_command, signature_of}
 use Rattle.boc_words.specs.Commands.{best_option, depth_option, files_of, names_file, program_file, record_file, runners_option, runs_option, seed_option}
 use Rattle.boc_words.specs.Commands.{after_names_file, after_operand, before_names_file, before_operand, then_option, top_option, workers_option}
-use Rattle.boc_words.specs.Commands.{from_option, out_names_file, tiles_option, window_rows_option}
+use Rattle.boc_words.specs.Commands.{end_option, from_option, most_option, out_names_file, tiles_option, window_rows_option}
 use Rattle.boc_words.specs.EditWords.{IsEditWord, IsWritable, edit_word, is_edit}
 use Rattle.boc_words.specs.declared.asked.AskedChanges.{AskedChanges}
 use Rattle.boc_words.specs.declared.asked.AskedCompare.{AskedCompare}
@@ -396,6 +396,48 @@ AreTiles rows (Some count) = GivesNumber tiles_option rows (Some count) × HasNo
 abbrev pub IsUnfitCut : List Row → Type 0
 IsUnfitCut rows = (HasTiles rows × HasWindow rows) ⊎ (HasOneName rows ⊎ (AreTooMany (names_file ∷ []) rows ⊎ AreTooMany (out_names_file ∷ []) rows))
 
+-- ---- all ends of a program
+
+-- something was given that is of draws
+abbrev pub HasDraws : List Row → Type 0
+HasDraws rows =
+    HasSome (values_at rows runs_option.id) true ⊎ (HasSome (values_at rows seed_option.id) true ⊎ (HasSome (values_at rows runners_option.id) true
+    ⊎ HasSome (values_at rows depth_option.id) true))
+
+-- nothing was given that is
+abbrev pub HasNoDraws : List Row → Type 0
+HasNoDraws rows =
+    HasSome (values_at rows runs_option.id) false × HasSome (values_at rows seed_option.id) false × HasSome (values_at rows runners_option.id) false
+    × HasSome (values_at rows depth_option.id) false
+
+-- something was given that is of a search of all ends
+abbrev pub HasSearch : List Row → Type 0
+HasSearch rows = HasSome (values_at rows most_option.id) true ⊎ HasSome (values_at rows end_option.id) true
+
+-- nothing was given that is
+abbrev pub HasNoSearch : List Row → Type 0
+HasNoSearch rows = HasSome (values_at rows most_option.id) false × HasSome (values_at rows end_option.id) false
+
+-- so many fronts are looked at at the most: 1,000,000 where no `--most` was given
+abbrev pub AreMostFronts : List Row → ℕ → Type 0
+AreMostFronts rows most = GivesOr 1000000 most_option rows most
+
+-- all ends were asked for: `--all` was given, and nothing that is of draws; and so many fronts are looked at at the most
+pub record AsksAllEnds (rows : List Row) (number : ℕ) : Type 0 where
+  pub all : IsSet rows (codes "all")
+  pub no_draws : HasNoDraws rows
+  pub most : AreMostFronts rows number
+
+-- these draws were asked for: no `--all` was given, and nothing that is of a search of all ends
+pub record AsksDraws (rows : List Row) (asked : AskedDraws) : Type 0 where
+  pub drawn : IsUnset rows (codes "all")
+  pub no_search : HasNoSearch rows
+  pub draws : AreDraws rows asked
+
+-- of `outcomes` something of draws was given next to `--all`, or something of a search of all ends without it
+abbrev pub IsUnfitEnds : List Row → Type 0
+IsUnfitEnds rows = (IsSet rows (codes "all") × HasDraws rows) ⊎ (IsUnset rows (codes "all") × HasSearch rows)
+
 -- `--short` was given, and the numbers before and after are told, or it was not
 abbrev pub IsShort : List Row → Bool → Type 0
 IsShort rows true = IsSet rows (codes "short")
@@ -502,6 +544,12 @@ IsOfDraws rows (faults.Parser e) = MissesNumber (runs_option ∷ seed_option ∷
 IsOfDraws rows faults.Memory = Unit {0}
 IsOfDraws rows _ = ⊥
 
+-- the fault says that the number behind an option of a search of all ends cannot be read, or that memory was refused
+abbrev pub IsOfSearch : List Row → WordsFault → Type 0
+IsOfSearch rows (faults.Parser e) = MissesNumber (most_option ∷ end_option ∷ []) rows
+IsOfSearch rows faults.Memory = Unit {0}
+IsOfSearch rows _ = ⊥
+
 -- the fault is a conflict: there is no second input, or both are standard input; or it says that memory was refused
 abbrev pub IsOfAfter : List Row → WordsFault → Type 0
 IsOfAfter rows (faults.Parser e) = (kind_of e ≡ kinds.ArgumentConflict) × (LacksAfter rows ⊎ AreBothStandard rows)
@@ -570,7 +618,9 @@ Asks kind rows (commands.Compare asked files) =
     (kind ≡ called.Compare) × HasSome (values_at rows runs_option.id) false × AsksCompare rows asked × AreCompareFiles rows files
 Asks kind rows (commands.CompareRuns asked after) = (kind ≡ called.Compare) × HasRuns rows × AreRuns rows asked × IsAfter rows after
 Asks kind rows (commands.Cowns asked file) = (kind ≡ called.Cowns) × AsksCowns rows asked × IsRunFile rows file
-Asks kind rows (commands.Outcomes draws) = (kind ≡ called.Outcomes) × AreDraws rows draws
+Asks kind rows (commands.Outcomes draws) = (kind ≡ called.Outcomes) × AsksDraws rows draws
+Asks kind rows (commands.AllEnds most) = (kind ≡ called.Outcomes) × AsksAllEnds rows most × GivesNumber end_option rows None
+Asks kind rows (commands.EndRun most number) = (kind ≡ called.Outcomes) × AsksAllEnds rows most × GivesNumber end_option rows (Some number)
 Asks kind rows (commands.Help text) = ⊥
 Asks kind rows commands.Version = ⊥
 
@@ -611,13 +661,14 @@ IsUnfitPair rows = (LacksAfter rows ⊎ AreBothStandard rows) ⊎ (RepeatsNames 
 
 -- what the parser takes for this command does not fit, for a conflict: of a sweep, options that are at odds; of a command that runs a program by a
 -- schedule, a depth without a seed, or `--timed` with a seed; of any command, more files than one beside its input, or for it; of a command that may report
--- on many runs, what is of one alone; of `compare`, inputs or files of names; of `cut`, `--tiles` with what is of one window, or files of names
+-- on many runs, what is of one alone; of `compare`, inputs or files of names; of `cut`, `--tiles` with what is of one window, or files of names; of
+-- `outcomes`, `--all` with what is of draws, or what is of a search of all ends without it
 pub record IsUnfit (kind : Kind) (rows : List Row) (error : ErrorKind) : Type 0 where
   pub conflict : error ≡ kinds.ArgumentConflict
   pub why : ((kind ≡ called.Sweep) × AreAtOdds rows) ⊎ ((HasSchedule kind × (LacksSeed rows ⊎ IsDrawnAndTimed rows))
       ⊎ ((AreTooMany (files_of kind) rows ⊎ HasInputs kind rows)
       ⊎ ((TakesRuns kind × HasRuns rows × IsOfOne rows) ⊎ (((kind ≡ called.Compare) × IsUnfitPair rows)
-      ⊎ ((kind ≡ called.Cut) × IsUnfitCut rows)))))
+      ⊎ (((kind ≡ called.Cut) × IsUnfitCut rows) ⊎ ((kind ≡ called.Outcomes) × IsUnfitEnds rows))))))
 
 -- a command was named, and what was found for it does not fit, for an error of this kind
 abbrev pub HasUnfit : Option (List ℕ × List Row) → ErrorKind → Type 0

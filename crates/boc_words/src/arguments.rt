@@ -206,6 +206,33 @@ pub(crate) const ALL: FlagOption = FlagOption {
     help: "Print every row of the chain; do not fold rows",
 };
 
+/// Whether all ends of a program are searched for.
+pub(crate) const ALL_ENDS: FlagOption = FlagOption {
+    help: "Draw nothing: search for all final states",
+    ..ALL
+};
+
+/// A search of all ends looks at this many fronts at most.
+pub(crate) const MOST_FRONTS: u32 = 100_000_000;
+
+/// How many fronts a search of all ends looks at.
+pub(crate) const MOST: NumberOption = NumberOption {
+    id: "most",
+    letter: None,
+    value_name: "FRONTS",
+    numbers: Numbers::UpTo(MOST_FRONTS),
+    help: "With --all, look at FRONTS at most [default: 1000000]",
+};
+
+/// Of which end a run is recorded.
+pub(crate) const END: NumberOption = NumberOption {
+    id: "end",
+    letter: None,
+    value_name: "K",
+    numbers: Numbers::UpTo(MOST_FRONTS),
+    help: "With --all, print the record of a run to end K",
+};
+
 /// Whether plans share what was only read.
 pub(crate) const SHARING: FlagOption = FlagOption {
     id: "shared-reads",
@@ -407,6 +434,9 @@ const _: () = prove!(MOST_ROWS == 65_535);
 
 // The limit that the help of `--then` names.
 const _: () = prove!(MOST_CHANGES == 5);
+
+// The limit that the help of `--most` and `--end` names.
+const _: () = prove!(MOST_FRONTS == 100_000_000);
 
 // The limit that the help of `--runs` names.
 const _: () = prove!(MOST_RUNS == 1_000_000);

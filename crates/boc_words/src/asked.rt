@@ -1,11 +1,18 @@
 // What words of a command line name.
 
+use crate::arguments::MOST_FRONTS;
 use crate::schedule::Schedule;
 use boc_plans::edit::{Edit, Part};
 use boc_plans::sharing::Sharing;
 use boc_plans::sweep::Sweep;
-use boc_program::count::{Depth, Runners, Runs, Workers};
+use boc_program::count::{Count, Depth, Runners, Runs, Workers};
 use boc_program::short::CownNo;
+
+/// The most fronts that a search of all ends looks at.
+pub type MostFronts = Count<MOST_FRONTS>;
+
+/// The number of an end among those that a search has found, counted from 1.
+pub type EndNumber = Count<MOST_FRONTS>;
 
 /// An edit that the words ask for.
 #[derive(Drop, Debug)]

@@ -8,11 +8,12 @@ ghost use Rattle.boc_words.specs.Words.{IsNoneOf, Told, command_line, without_co
 
 use crate::arguments::Argument::{Flag, Needed, Number, Repeated, Word, Words};
 use crate::arguments::{
-    AFTER, AFTER_NAMES, ALL, Argument, BEFORE, BEFORE_NAMES, BEST, BOTH_NAMES, COMPARE_WORKERS,
-    CURVE_WORKERS, DEPTH, DRAWN_DEPTH, DRAWN_WORKERS, EARLY, EDITS, FIRST_SEED, FROM, INPUT,
-    MANY_RUNS, NAMES, NO_PLAN, OUT_NAMES, PROGRAM, QUIET, RECORD, RUNNERS, RUNNERS_ALONE, RUNS,
-    SEED, SHARING, SHORT, STREAM, STREAM_NAMES, SWEEP_COWNS, SWEEP_SPAWNS, SWEEP_WORKERS, THEN,
-    TILES, TIMED, TOP, TYPICAL, WHY_WORKERS, WINDOW_QUIET, WINDOW_ROWS, WITHOUT, WORKERS,
+    AFTER, AFTER_NAMES, ALL, ALL_ENDS, Argument, BEFORE, BEFORE_NAMES, BEST, BOTH_NAMES,
+    COMPARE_WORKERS, CURVE_WORKERS, DEPTH, DRAWN_DEPTH, DRAWN_WORKERS, EARLY, EDITS, END,
+    FIRST_SEED, FROM, INPUT, MANY_RUNS, MOST, NAMES, NO_PLAN, OUT_NAMES, PROGRAM, QUIET, RECORD,
+    RUNNERS, RUNNERS_ALONE, RUNS, SEED, SHARING, SHORT, STREAM, STREAM_NAMES, SWEEP_COWNS,
+    SWEEP_SPAWNS, SWEEP_WORKERS, THEN, TILES, TIMED, TOP, TYPICAL, WHY_WORKERS, WINDOW_QUIET,
+    WINDOW_ROWS, WITHOUT, WORKERS,
 };
 use crate::version::VERSION;
 use boc_program::limits::{
@@ -622,9 +623,29 @@ D - 1 steps or fewer, which are drawn too, the one that would move drops to the
 last place. That finds states that need few switches at the right places, which
 are rare without --depth. Begin with --depth 2.
 
+With --all nothing is drawn. A search goes through the runs of any number of
+workers and all interleavings, and prints each end (final state) once. It puts
+beginnings of runs together that have as many rows, and of which the rest of a
+run is the same: these are a front. Not with --runs, --seed, -w and --depth.
+  all yes                Each run ends with one of these: there are no others
+  all below R            The search stopped after FRONTS fronts. Each run of
+                         fewer than R rows ends with one of these. A longer run
+                         may end with another
+  fronts N               Number of fronts that were looked at
+  rows LEAST MOST        Fewest and most rows of the runs that were found
+  endless                Some run needs more than 65,535 rows: it has no end
+  end K rows LEAST MOST  The Kth end, and the fewest and most rows of its runs
+  NAME VALUE             Value of a cown at this end
+Ends are sorted by the values of the first cown that differs. Some run ends with
+each end that is printed, also after `all below R`. N workers may not reach all.
+With --end K the output is the record of a run to end K, of as few rows as can
+be. If there is no such end, the status is 4.
+
 Examples:
   boc outcomes program.boc
   boc outcomes --runs 10000 --depth 2 program.boc
+  boc outcomes --all program.boc
+  boc outcomes --all --end 2 program.boc > run.record
 
 See also: boc help run, boc help values. Exit statuses: boc --help.";
 
@@ -677,7 +698,7 @@ Exit statuses:
   0  Success
   2  Invalid command-line arguments, or a word that is no edit
   3  Invalid input or file, or a cown or an edit that the record does not allow
-  4  Too many behaviours, or a thread could not be started
+  4  Too many behaviours, no end K, or a thread could not be started
   5  Out of memory, a file that cannot be read, or an I/O error
 
 Examples:
@@ -956,12 +977,15 @@ const COMPARE: Entry = Entry {
 
 const OUTCOMES: Entry = Entry {
     name: "outcomes",
-    about: about!("Draw many random runs and count the final states they reach"),
+    about: about!("Count the final states of random runs, or find all of them"),
     takes: &[
         Number(RUNS),
         Number(FIRST_SEED),
         Number(DRAWN_WORKERS),
         Number(DRAWN_DEPTH),
+        Flag(ALL_ENDS),
+        Number(MOST),
+        Number(END),
         Word(INPUT),
     ],
     lines: OUTCOMES_LINES,

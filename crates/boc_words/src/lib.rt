@@ -12,8 +12,8 @@ mod words;
 
 pub use asked::{
     AskedChanges, AskedCompare, AskedCown, AskedCowns, AskedCurve, AskedCut, AskedDraws, AskedEdit,
-    AskedPlans, AskedProfile, AskedRuns, AskedSweep, AskedWhy, CompareFiles, CutNames, RunFile,
-    WhatIfFile,
+    AskedPlans, AskedProfile, AskedRuns, AskedSweep, AskedWhy, CompareFiles, CutNames, EndNumber,
+    MostFronts, RunFile, WhatIfFile,
 };
 pub use boc_program::count::{Runners, Runs};
 pub use fault::WordsFault;

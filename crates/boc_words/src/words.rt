@@ -1,7 +1,7 @@
 // The words of the command line.
 
 ghost use Rattle.boc_words.specs.Commands.{IsNumberOf, best_option, depth_option, names_file, program_file, record_file, runners_option, top_option};
-ghost use Rattle.boc_words.specs.Commands.{then_option, workers_option};
+ghost use Rattle.boc_words.specs.Commands.{end_option, then_option, workers_option};
 ghost use Rattle.boc_words.specs.EditWords.{is_edit};
 ghost use Rattle.boc_words.specs.Tables.{option_of};
 ghost use Rattle.boc_words.specs.declared.commands.Kind.TheVariants as called;
@@ -13,6 +13,7 @@ ghost use Rattle.boc_words.specs.Words.{AreTimedWorkers, IsOfTimedWorkers, IsOfU
 ghost use Rattle.boc_words.specs.Words.{AreNames, AreRuns, HasNames, HasNoNames, HasSome, IsAfter, IsOfAfter, IsOfMany, IsOfNames, IsOfOne, IsOfRuns};
 ghost use Rattle.boc_words.specs.Words.{AreChanges, AreEarlyDefs, ArePlans, ReadsFrom};
 ghost use Rattle.boc_words.specs.Words.{AreCutNames, AreTiles, HasNoWindow, HasWindow, IsOfCutNames, IsOfTiles};
+ghost use Rattle.boc_words.specs.Words.{AreMostFronts, HasDraws, HasNoDraws, HasNoSearch, HasSearch, IsOfSearch, IsSet, IsUnset};
 ghost use Rattle.boc_words.specs.Words.{command_line, values_at};
 ghost use Rattle.std.specs.List.{filter};
 ghost use Rattle.clap.specs.Kinds.{HasKind};
@@ -21,15 +22,15 @@ ghost use Rattle.clap.specs.Words.{fault_of, found_of, kind_of, rows_of, subcomm
 ghost use Rattle.std.specs.Prelude.{◌≡◌, ◌∷◌, ◌<◌, ◌^◌, ◌↔◌, if◌then◌else◌, [], ℕ, IfErr, IfNone, IfOk, IfSome, IsTrue, codes, map, not, string_bytes};
 
 use crate::arguments::{
-    AFTER, AFTER_NAMES, ALL, BEFORE, BEFORE_NAMES, BEST, DEPTH, EARLY, EDITS, FROM, INPUT, NAMES,
-    NO_PLAN, NumberOption, Numbers, OUT_NAMES, PROGRAM, QUIET, RECORD, RUNNERS, RUNS,
+    AFTER, AFTER_NAMES, ALL, BEFORE, BEFORE_NAMES, BEST, DEPTH, EARLY, EDITS, END, FROM, INPUT,
+    MOST, NAMES, NO_PLAN, NumberOption, Numbers, OUT_NAMES, PROGRAM, QUIET, RECORD, RUNNERS, RUNS,
     RepeatedOption, SEED, SHARING, SHORT, SWEEP_COWNS, SWEEP_SPAWNS, THEN, TILES, TIMED, TOP,
     TYPICAL, WINDOW_ROWS, WITHOUT, WORKERS,
 };
 use crate::asked::{
     AskedChanges, AskedCompare, AskedCown, AskedCowns, AskedCurve, AskedCut, AskedDraws, AskedEdit,
-    AskedPlans, AskedProfile, AskedRuns, AskedSweep, AskedWhy, CompareFiles, CutNames, RunFile,
-    WhatIfFile,
+    AskedPlans, AskedProfile, AskedRuns, AskedSweep, AskedWhy, CompareFiles, CutNames, EndNumber,
+    MostFronts, RunFile, WhatIfFile,
 };
 use crate::commands::{Kind, kind_of, parser};
 use crate::edit_word::{edit_of, is_edit};
@@ -132,6 +133,13 @@ pub enum Command {
     },
     /// The ends that drawn runs of a program reach, and how often.
     Outcomes(AskedDraws),
+    /// All ends of a program, by a search that looks at this many fronts at most.
+    AllEnds(MostFronts),
+    /// The record of a run that reaches the end with this number among those that such a search finds.
+    EndRun {
+        most: MostFronts,
+        number: EndNumber,
+    },
     /// The parser's own text, for standard output.
     Help(String),
     /// The version of the program, which is [`VERSION`](crate::VERSION).
@@ -582,7 +590,94 @@ fn asked_outcomes(alloc: Global, matches: &ArgMatches) -> Result<Command, WordsF
     ensures asked { IfOk result (Asks called.Outcomes (rows_of (found_of matches.now))) }
     ensures refused { IfErr result (IsUnread called.Outcomes (rows_of (found_of matches.now))) }
 {
+    if is_set(texts_at(matches, ALL.id)) {
+        asked_search(alloc, matches)
+    } else {
+        asked_drawing(alloc, matches)
+    }
+}
+
+// Returns what `outcomes` has to do where all ends are searched for. It is a fault to ask for what is of draws too.
+fn asked_search(alloc: Global, matches: &ArgMatches) -> Result<Command, WordsFault>
+    requires { IsSet (rows_of (found_of matches.now)) (codes "all") }
+    ensures asked { IfOk result (Asks called.Outcomes (rows_of (found_of matches.now))) }
+    ensures refused { IfErr result (IsUnread called.Outcomes (rows_of (found_of matches.now))) }
+{
+    if let Some(text) = of_draws(matches) {
+        return Err(at_odds(alloc, text));
+    }
+    let most = most_fronts_asked(alloc, matches)?;
+    match end_asked(alloc, matches)? {
+        Some(number) => Ok(Command::EndRun { most, number }),
+        None => Ok(Command::AllEnds(most)),
+    }
+}
+
+// Returns what `outcomes` has to do where runs are drawn. It is a fault to ask for what is of a search of all ends too.
+fn asked_drawing(alloc: Global, matches: &ArgMatches) -> Result<Command, WordsFault>
+    requires { IsUnset (rows_of (found_of matches.now)) (codes "all") }
+    ensures asked { IfOk result (Asks called.Outcomes (rows_of (found_of matches.now))) }
+    ensures refused { IfErr result (IsUnread called.Outcomes (rows_of (found_of matches.now))) }
+{
+    if let Some(text) = of_search(matches) {
+        return Err(at_odds(alloc, text));
+    }
     Ok(Command::Outcomes(draws_asked(alloc, matches)?))
+}
+
+// Returns what is wrong with an option that is of draws, where there is such an option next to `--all`.
+fn of_draws(matches: &ArgMatches) -> Option<&'static str>
+    ensures none { IfNone result (HasNoDraws (rows_of (found_of matches.now))) }
+    ensures some { IfSome result (λ text. HasDraws (rows_of (found_of matches.now))) }
+{
+    if is_given(matches, RUNS.id) {
+        Some("the argument '--all' cannot be used with '--runs <K>'")
+    } else if is_given(matches, SEED.id) {
+        Some("the argument '--all' cannot be used with '--seed <S>'")
+    } else if is_given(matches, RUNNERS.id) {
+        Some("the argument '--all' cannot be used with '--workers <N>'")
+    } else if is_given(matches, DEPTH.id) {
+        Some("the argument '--all' cannot be used with '--depth <D>'")
+    } else {
+        None
+    }
+}
+
+// Returns what is wrong with an option that is of a search of all ends, where there is such an option without `--all`.
+fn of_search(matches: &ArgMatches) -> Option<&'static str>
+    ensures none { IfNone result (HasNoSearch (rows_of (found_of matches.now))) }
+    ensures some { IfSome result (λ text. HasSearch (rows_of (found_of matches.now))) }
+{
+    if is_given(matches, MOST.id) {
+        Some("the argument '--most <FRONTS>' cannot be used without '--all'")
+    } else if is_given(matches, END.id) {
+        Some("the argument '--end <K>' cannot be used without '--all'")
+    } else {
+        None
+    }
+}
+
+// How many fronts a search of all ends looks at where the words have no `--most`.
+const USUAL_FRONTS: u64 = 1_000_000;
+
+// Returns how many fronts the words have a search of all ends look at, at most.
+fn most_fronts_asked(alloc: Global, matches: &ArgMatches) -> Result<MostFronts, WordsFault>
+    ensures asked { IfOk result (AreMostFronts (rows_of (found_of matches.now))) }
+    ensures refused { IfErr result (IsOfSearch (rows_of (found_of matches.now))) }
+{
+    let most = number_or(alloc, matches, &MOST, USUAL_FRONTS)?;
+    Ok(MostFronts::new(most as u32).unwrap())
+}
+
+// Returns the number of the end of which the words have a run recorded, if they name one.
+fn end_asked(alloc: Global, matches: &ArgMatches) -> Result<Option<EndNumber>, WordsFault>
+    ensures asked { IfOk result (GivesNumber end_option (rows_of (found_of matches.now))) }
+    ensures refused { IfErr result (IsOfSearch (rows_of (found_of matches.now))) }
+{
+    match number_asked(alloc, matches, &END)? {
+        Some(number) => Ok(EndNumber::new(number as u32)),
+        None => Ok(None),
+    }
 }
 
 // Returns the texts that were found for an argument, none where it was not given.

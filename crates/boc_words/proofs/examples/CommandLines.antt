@@ -3,12 +3,12 @@ use Rattle.std.proofs.Common.{map, ◌≡◌, List, [], ◌∷◌, Some, None, t
 use Rattle.clap.proofs.OnLiterals.{clap_on_literals}
 use Rattle.clap.specs.Words.{Text, fault_of, is_simple, is_simple_and_free, subcommand_of}
 use Rattle.clap.specs.declared.error.kind.ErrorKind.TheVariants as kinds
-use Rattle.boc_words.specs.Commands.{after_names_file, after_operand, before_operand, files_of, then_option, top_option}
+use Rattle.boc_words.specs.Commands.{after_names_file, after_operand, before_operand, end_option, files_of, then_option, top_option}
 use Rattle.boc_words.specs.EditWords.{edit_word}
 use Rattle.boc_words.specs.declared.asked.AskedCown.TheVariants.{Number}
 use Rattle.boc_words.specs.declared.asked.AskedEdit.TheVariants.{Row}
 use Rattle.boc_words.specs.Words.{AreAtOdds, AreCowns, AreDraws, AreRunners, AreShared, AreTaken, AreUpTo, AreTooMany, AreWorkers, IsOver, IsSchedule}
-use Rattle.boc_words.specs.Words.{AreBothStandard, GivesNumber, HasRuns, IsOfOne, LacksSeed, Names}
+use Rattle.boc_words.specs.Words.{AreBothStandard, AsksAllEnds, AsksDraws, GivesNumber, HasRuns, IsOfOne, IsUnfitEnds, LacksSeed, Names}
 use Rattle.boc_words.specs.Words.{command_line, edit_words, values_at}
 use Rattle.boc_words.specs.declared.commands.Kind.TheVariants as called
 use Rattle.boc_words.specs.declared.schedule.Schedule.TheVariants.{Drawn, Timed}
@@ -287,7 +287,7 @@ pub outcomes_taken : AreTaken outcomes_words
 unfolding clap_on_literals
 outcomes_taken = refl
 
-pub outcomes_named : Names (subcommand_of command_line outcomes_words) called.Outcomes (λ rows. AreDraws rows (record {
+pub outcomes_named : Names (subcommand_of command_line outcomes_words) called.Outcomes (λ rows. AsksDraws rows (record {
   runs = 9;
   seed = 0;
   workers = 4;
@@ -298,12 +298,47 @@ outcomes_named = (
   _,
   refl,
   record {
-    runs = inr (record { text = codes "9"; alone = refl; says = record { numeral = (lit≤ tt, (lit≤ tt, tt)); value = refl } });
-    seed = inl (refl, refl);
-    workers = inl (refl, refl);
-    depth = record { text = codes "2"; alone = refl; says = record { numeral = (lit≤ tt, (lit≤ tt, tt)); value = refl } };
+    drawn = λ e. cc;
+    no_search = (refl, refl);
+    draws = record {
+      runs = inr (record { text = codes "9"; alone = refl; says = record { numeral = (lit≤ tt, (lit≤ tt, tt)); value = refl } });
+      seed = inl (refl, refl);
+      workers = inl (refl, refl);
+      depth = record { text = codes "2"; alone = refl; says = record { numeral = (lit≤ tt, (lit≤ tt, tt)); value = refl } };
+    };
   },
 )
+
+abbrev all_ends_words : List Text
+all_ends_words = codes "boc" ∷ codes "outcomes" ∷ codes "--all" ∷ codes "--end=2" ∷ []
+
+pub all_ends_taken : AreTaken all_ends_words
+unfolding clap_on_literals
+all_ends_taken = refl
+
+pub all_ends_named : Names (subcommand_of command_line all_ends_words) called.Outcomes (λ rows.
+    AsksAllEnds rows 1000000 × GivesNumber end_option rows (Some 2))
+unfolding clap_on_literals digits
+all_ends_named = (
+  _,
+  refl,
+  (
+    record { all = refl; no_draws = (refl, refl, refl, refl); most = inl (refl, refl) },
+    record { text = codes "2"; alone = refl; says = record { numeral = (lit≤ tt, (lit≤ tt, tt)); value = refl } },
+  ),
+)
+
+-- the parser takes these, and what is of draws stands beside a search of all ends
+abbrev searched_words : List Text
+searched_words = codes "boc" ∷ codes "outcomes" ∷ codes "--all" ∷ codes "--seed" ∷ codes "0" ∷ []
+
+pub searched_taken : AreTaken searched_words
+unfolding clap_on_literals
+searched_taken = refl
+
+pub searched_named : Names (subcommand_of command_line searched_words) called.Outcomes (λ rows. IsUnfitEnds rows)
+unfolding clap_on_literals
+searched_named = (_, refl, inl (refl, inr (inl (λ e. cc))))
 
 abbrev compare_words : List Text
 compare_words = codes "boc" ∷ codes "compare" ∷ codes "-p4" ∷ codes "a" ∷ codes "--names-b=n" ∷ codes "-" ∷ []
@@ -367,6 +402,19 @@ too_deep = refl
 pub no_runs : fault_of command_line (codes "boc" ∷ codes "outcomes" ∷ codes "--runs" ∷ codes "0" ∷ []) ≡ kinds.ValueValidation ∷ []
 unfolding clap_on_literals
 no_runs = refl
+
+pub no_fronts : fault_of command_line (codes "boc" ∷ codes "outcomes" ∷ codes "--all" ∷ codes "--most" ∷ codes "0" ∷ []) ≡ kinds.ValueValidation ∷ []
+unfolding clap_on_literals
+no_fronts = refl
+
+pub too_many_fronts :
+    fault_of command_line (codes "boc" ∷ codes "outcomes" ∷ codes "--all" ∷ codes "--most" ∷ codes "100000001" ∷ []) ≡ kinds.ValueValidation ∷ []
+unfolding clap_on_literals
+too_many_fronts = refl
+
+pub no_end : fault_of command_line (codes "boc" ∷ codes "outcomes" ∷ codes "--all" ∷ codes "--end" ∷ codes "0" ∷ []) ≡ kinds.ValueValidation ∷ []
+unfolding clap_on_literals
+no_end = refl
 
 pub too_many_changes : fault_of command_line (codes "boc" ∷ codes "why" ∷ codes "--then" ∷ codes "6" ∷ []) ≡ kinds.ValueValidation ∷ []
 unfolding clap_on_literals

@@ -1,0 +1,2 @@
+pub mod EndRuns
+pub mod Searched

@@ -1,0 +1,2 @@
+pub mod AllEndsAnswers
+pub mod EndRunAnswers

@@ -17,7 +17,7 @@ _boc_options() {
     why) echo -h --help -w --workers --seed --depth --timed --record --names -p --p --shared-reads --typical --all --then --quiet --runs ;;
     cowns) echo -h --help -w --workers --seed --depth --timed --record --names -p --p --top --shared-reads --typical --quiet ;;
     compare) echo -h --help -w --workers --seed --depth --timed --names --names-a --names-b -p --p --shared-reads --typical --quiet --runs ;;
-    outcomes) echo -h --help --runs --seed -w --workers --depth ;;
+    outcomes) echo -h --help --runs --seed -w --workers --depth --all --most --end ;;
     esac
 }
 
@@ -52,7 +52,7 @@ _boc() {
     if [[ $are_options ]]; then
         case $option in
         --out-names | --record | --program | --names | --names-a | --names-b) _boc_files "$current" && return ;;
-        -w | --workers | --seed | --depth | --runs | -p | --p | --without | --early | --from | --rows | --tiles | --best | --top | --then) return ;;
+        -w | --workers | --seed | --depth | --runs | -p | --p | --without | --early | --from | --rows | --tiles | --best | --top | --most | --end | --then) return ;;
         esac
     fi
     if [[ $current == -* && $are_options ]]; then

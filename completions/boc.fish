@@ -34,7 +34,7 @@ complete -c boc -n '__boc_is; or __boc_is help' -a sweep -d 'Print the span with
 complete -c boc -n '__boc_is; or __boc_is help' -a why -d 'Show the critical path of a run and what some changes gain'
 complete -c boc -n '__boc_is; or __boc_is help' -a cowns -d 'Show how long cowns are held and whether they limit a run'
 complete -c boc -n '__boc_is; or __boc_is help' -a compare -d 'Show what has changed from one run to another'
-complete -c boc -n '__boc_is; or __boc_is help' -a outcomes -d 'Draw many random runs and count the final states they reach'
+complete -c boc -n '__boc_is; or __boc_is help' -a outcomes -d 'Count the final states of random runs, or find all of them'
 complete -c boc -n '__boc_is; or __boc_is help' -a help -d 'Print help'
 
 # The file that the input is read from; an edit is not completed.
@@ -69,6 +69,9 @@ complete -c boc -n '__boc_is sweep' -l spawns -d 'Spawn each row as early as it 
 complete -c boc -n '__boc_is sweep' -l best -x -d 'Print the K best lines, 1 to 65,535, with their gain'
 complete -c boc -n '__boc_is cowns' -l top -x -d 'Print only the first K cowns, 1 to 256'
 complete -c boc -n '__boc_is why' -l all -d 'Print every row of the chain; do not fold rows'
+complete -c boc -n '__boc_is outcomes' -l all -d 'Draw nothing: search for all final states'
+complete -c boc -n '__boc_is outcomes' -l most -x -d 'With --all, look at FRONTS at most [default: 1000000]'
+complete -c boc -n '__boc_is outcomes' -l end -x -d 'With --all, print the record of a run to end K'
 complete -c boc -n '__boc_is why' -l then -x -d 'Make the best change, the best on top, .. K times, 1 to 5'
 complete -c boc -n '__boc_is values profile whatif curve sweep why cowns' -l record -r -F -d 'Take the run that FILE records; run nothing'
 complete -c boc -n '__boc_is check whatif' -l program -r -F -d 'Read the program of the recorded run from FILE'

@@ -29,6 +29,16 @@ def move(k; x, y) { x = x - k; y = y + k; }
 main { when add(5; a); when move(3; a, b); when add(1; b); }
 """
 
+# All ends of the transfer.
+ALL_ENDS = """\
+all yes
+fronts 4
+rows 4 4
+end 1 rows 4 4
+a 12
+b 4
+"""
+
 # What three draws for one worker come to.
 ENDS = """\
 runs 3
@@ -74,6 +84,9 @@ def answers(program):
     yield ["run", "--workers", "1", "--seed", "7"], TEXT, record.decode()
     yield ["time"], TEXT, PROFILE
     yield ["outcomes", "--runs", "3", "--seed", "7", "--workers", "1"], TEXT, ENDS
+    yield ["outcomes", "--all"], TEXT, ALL_ENDS
+    to_end = ["outcomes", "--all", "--end", "1"]
+    yield to_end, TEXT, program.run(to_end, TEXT).output.decode()
     yield ["why"], TEXT, WHY
     yield ["cowns"], record, cowns_text(record.decode())
     yield ["values", "--record", record_file], TEXT, values

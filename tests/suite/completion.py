@@ -109,9 +109,11 @@ def fault_of_excluded(program, command):
 
 
 def given(option):
-    """An option with a number that it takes, or with a file that isn't there; a depth with a seed."""
+    """An option with a number that it takes, or with a file that isn't there; a depth with a seed, and what is about a search with it."""
     if option.name == "--depth":
         return ["--seed", "2", "--depth", "2"]
+    if option.name in ("--most", "--end"):
+        return ["--all", option.name, "2"]
     return [option.name, "40" if option.value == "COLUMNS" else "2"] if option.value else [option.name]
 
 

@@ -17,6 +17,8 @@ COMMANDS = [
     (["run"], False),
     (["time"], False),
     (["outcomes", "--runs", "3"], False),
+    (["outcomes", "--all"], False),
+    (["outcomes", "--all", "--end", "1"], False),
     (["why"], False),
     (["cowns"], False),
     (["check"], True),

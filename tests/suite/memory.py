@@ -9,7 +9,7 @@ import tempfile
 from . import model
 from .hot_cowns import cowns_text
 from .notes import FAULTS, NOTED, RECORD as FAULTED, RECORD_NOTED
-from .outcomes import FEW, tally_by_seeds
+from .outcomes import FEW, RACE, tally_by_seeds
 from .programs import Program, RunNames, follow, serial_run
 from .records import fan, fan_text
 from .running import MEMORY, Answer, done, fault_of, refused
@@ -95,6 +95,8 @@ def runs(program):
     yield ["whatif", "--p", "2", "2=1"], record, done((SHORTER + SHORTER_GREEDY).encode())
     race, _ = FEW["a race of three"]
     yield ["outcomes", "--runs", "12"], race, done(tally_by_seeds(program, Program(race), race, 12, ["--workers", "4"], 0)[0])
+    for more in ([], ["--most", "3"], ["--end", "2"], ["--end", "3"]):
+        yield ["outcomes", "--all", *more], RACE, program.run(["outcomes", "--all", *more], RACE)
     yield ["curve", "--p", "3"], record, done(CURVE.encode())
     yield ["curve", "--p", "5"], fan_text(3, MANY), done(model.curve(MANY, 5))
     yield ["sweep"], record, done(b"0 9\n1 8\n2 7\n3 8\n")

@@ -32,6 +32,13 @@ main {{ repeat {BEHAVIOURS} {{ when long(1; a); }} %s}}
 LONG_ROWS = BEHAVIOURS + 1
 LONG_EVENTS = 3 * LONG_ROWS
 
+# Ten behaviours that may spawn one each over the same cown in whatever order: so many fronts that a search of all ends takes long.
+ORDERS = b"""cown a = 1; cown b[10] = 0;
+def put(k; x) { x = x * 11 % 1000003 + k; }
+def go(k; y) { when put(k; a); }
+main { let k = 0; repeat 10 { when go(k; b[k]); k = k + 1; } }
+"""
+
 # The line goes back to its beginning and wipes what stood there.
 WIPE = b"\r\x1b[K"
 LINE = rb"(\d+) (?:of (\d+) done(?:, \d+ s left)?|done)"
@@ -72,6 +79,7 @@ def cases_of_runs(program):
             ("a run that a seed draws", ["run", "--seed", "3", "-w", "2"], 0),
             ("why", ["why"], LONG_ROWS)]:
         yield from cases_of(program, name, words, source, *phases, output=output if words == ["values"] else None)
+    yield from cases_of(program, "a search of all ends", ["outcomes", "--all"], ORDERS, 0)
     yield from cases_of(view_of(program), "boc-view", ["text"], source, LONG_ROWS)
 
 

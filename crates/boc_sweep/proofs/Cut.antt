@@ -76,3 +76,60 @@ module _ {A : Type 0} (Is : A → Type 0) (rank : A → ℕ) (Link Changed : A �
       let above : changed y + tail y ≤ changed last = up (suc (rank last - rank y)) y i.1 (omega arith) high_y in
       let under : changed last + tail last ≤ most = down most m.none_heavier (suc (rank last)) last is_last (omega arith) last_high in
       omega (arith, above, under, heads'.keeps x y w l, low x i.0 low_x, m.reached.6)
+
+-- where nothing changes: each cut has a heaviest way over it, and that is as heavy as all
+module _ {A : Type 0} (Is : A → Type 0) (rank : A → ℕ) (Link : A → A → ℕ → Type 0) (source last : A) (head tail : A → ℕ)
+    (inside : (x y : A) (w : ℕ) → Link x y w → Is x × Is y)
+    (rises : (x y : A) (w : ℕ) → Link x y w → rank x < rank y)
+    (top : (x : A) → Is x → rank x ≤ rank last)
+    (is_last : Is last) (heads : AreHeads Is Link source head) (tails : AreTails Is Link last tail) where
+  -- no way is heavier than the head of the last node
+  through : (n : ℕ) (y : A) → Is y → rank last - rank y < n → head y + tail y ≤ head last
+  through zero y i h = absurd (omega (arith, h))
+  through (suc n) y i h = elim (tails.tight y i) [
+    | inl e ↦ omega (arith, tails.at_source, ap tail e, ap head e)
+    | inr (z, w, j, l, e) ↦ (
+        let r : rank y < rank z = rises y z w l in
+        let t : rank z ≤ rank last = top z j in
+        omega (arith, e, through n z j (omega arith), heads.keeps y z w l))
+  ]
+
+  pub none_over : (y : A) → Is y → head y + tail y ≤ head last
+  none_over y i = through (suc (rank last - rank y)) y i (omega arith)
+
+  -- a heaviest way to a node is one from the node before it
+  before : (x y : A) (w : ℕ) → Is x → Link x y w → head x + w ≡ head y → head y + tail y ≡ head last → head x + tail x ≡ head last
+  before x y w i l t e = omega (arith, t, e, tails.keeps y x w l, none_over x i)
+
+  -- a heaviest way comes from the source
+  back : (n : ℕ) (y : A) → Is y → rank y < n → head y + tail y ≡ head last → head source + tail source ≡ head last
+  back zero y i h e = absurd (omega (arith, h))
+  back (suc n) y i h e = elim (heads.tight y i) [
+    | inl s ↦ omega (arith, e, ap head s, ap tail s)
+    | inr (x, w, j, l, t) ↦ (let r : rank x < rank y = rises x y w l in back n x j (omega (arith, r, h)) (before x y w j l t e))
+  ]
+
+  pub tail_is_last : tail source ≡ head last
+  tail_is_last = omega (arith, heads.at_source, back (suc (rank last)) last is_last (omega arith) (omega (arith, tails.at_source)))
+
+  module _ (cut : ℕ) (source_low : rank source ≤ cut) (last_high : cut < rank last) where
+    abbrev Crossed : Type 0
+    Crossed = (x : A) × (y : A) × (w : ℕ) × (rank x ≤ cut) × (cut < rank y) × Link x y w × (head x + w + tail y ≡ head last)
+
+    crossed : (n : ℕ) (y : A) → Is y → rank y < n → cut < rank y → head y + tail y ≡ head last → Crossed
+    crossed zero y i h k e = absurd (omega (arith, h))
+    crossed (suc n) y i h k e = elim (heads.tight y i) [
+      | inl s ↦ absurd (omega (arith, ap rank s, source_low, k))
+      | inr (x, w, j, l, t) ↦ (
+          let r : rank x < rank y = rises x y w l in
+          elim (cases_lt cut (rank x)) [
+            | inl high ↦ crossed n x j (omega (arith, r, h)) high (before x y w j l t e)
+            | inr g ↦ (x, y, w, omega (arith, g), k, l, omega (arith, t, e))
+          ])
+    ]
+
+    pub cut_same : IsHeaviest rank Link head tail cut (head last)
+    cut_same = record {
+      none_heavier = λ x y w low high l. omega (arith, heads.keeps x y w l, none_over y ((inside x y w l).1));
+      reached = crossed (suc (rank last)) last is_last (omega arith) last_high (omega (arith, tails.at_source));
+    }

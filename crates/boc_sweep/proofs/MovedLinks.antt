@@ -12,12 +12,12 @@ use Rattle.boc_plans.specs.Greedy.{IsSpan}
 use Rattle.boc_order.specs.Placed.{ArePlaced}
 use Rattle.boc_order.specs.Waits.{Covers, IsNear, HasWaits}
 use Rattle.boc_sweep.specs.declared.sweeping.Cut.TheVariants.{Before}
-use Rattle.boc_sweep.specs.Ways.{ChangesAt}
+use Rattle.boc_sweep.specs.Ways.{ChangesAt, IsHeaviest}
 use Rattle.boc_sweep.specs.Links.{Node, start, stop, finish, number_of, Links, tick_of}
 use Rattle.boc_sweep.specs.Cuts.{HasTails, tail_of, Crosses}
 use Rattle.boc_sweep.specs.Spawns.{IsReadyAt}
 use Rattle.boc_sweep.proofs.Nearest.{near_covers}
-use Rattle.boc_sweep.proofs.RowLinks.{heaviest_is_span}
+use Rattle.boc_sweep.proofs.RowLinks.{heaviest_is_span, same_over_cut}
 
 -- rows with the same cowns are in the same order
 ordered_same : (rows other : List Row) → ((r : ℕ) → cowns_of other r ≡ cowns_of rows r) → ((r : ℕ) → written_of other r ≡ written_of rows r) →
@@ -219,3 +219,72 @@ module _ (rows : List Row) (hr : IsRows rows) (starts ends : List ℕ) (after : 
       (covers_moved rows (IsNear rows) row offset (near_covers rows)) len' (2 * row - 1) (omega (arith, f.there))
       (links_change rows hr (IsNear rows) row offset f.there) most
       (record { none_heavier = all_links cross own; reached = found reached })
+
+  -- with nothing changed, the span is the heaviest way over the cut before the row's start
+  heaviest : IsHeaviest (number_of (length rows)) (Links rows (IsNear rows)) (tick_of rows starts last) (tail_of from_starts from_ends) (2 * row - 1) last
+  heaviest = same_over_cut rows hr (IsNear rows) starts ends after last (tail_of from_starts from_ends)
+      (record { covers = near_covers rows; placed = placed; ended = ended; tails = has_tails.tails }) (2 * row - 1) (omega (arith, f.there))
+
+  crosses_low : (w : ℕ) → Crosses Before rows starts from_starts row w → w ≤ last
+  crosses_low w (inl (a, b, low, high, child, e)) =
+      omega (arith, e, heaviest.none_heavier (start a) (start b) (offset_of rows b) (omega (arith, low)) (omega (arith, high)) (child, refl))
+  crosses_low w (inr (inl (a, b, low, high, near, e))) =
+      omega (arith, e, heaviest.none_heavier (stop a) (start b) 0 (omega (arith, low)) (omega (arith, high)) (near, refl))
+  crosses_low w (inr (inr (a, low, e))) =
+      omega (arith, e, heaviest.none_heavier (stop a) finish 0 (omega (arith, low)) (omega (arith, f.there)) (omega (arith, low, f.there), refl))
+
+  spawn_low : start_of starts (parent_of rows row) + offset_of rows row + slice_index from_starts row ≤ last
+  spawn_low = heaviest.none_heavier (start (parent_of rows row)) (start row) (offset_of rows row) (omega (arith, hr.parent_before row f.child f.there))
+      (omega (arith, f.child)) (record { not_main = f.child; there = f.there; parent = refl }, refl)
+
+  wait_low : (a : ℕ) → IsNear rows a row → end_of rows starts a + slice_index from_starts row ≤ last
+  wait_low a near = omega (arith, heaviest.none_heavier (stop a) (start row) 0 (omega (arith, near.near.before)) (omega (arith, f.child)) (near, refl))
+
+  ready_low : offset ≤ offset_of rows row → ready + slice_index from_starts row ≤ last
+  ready_low falls = elim is_ready.reached [
+    | inl e ↦ omega (arith, e, falls, spawn_low)
+    | inr (a, k, e) ↦ (let near = has_waits.sound a k in omega (arith, e, over a near, wait_low a near))
+  ]
+
+  abbrev Heaviest : Type 0
+  Heaviest = (start_of starts (parent_of rows row) + offset_of rows row + slice_index from_starts row ≡ last)
+      ⊎ ((last ≤ ready + slice_index from_starts row) ⊎ Crosses Before rows starts from_starts row last)
+
+  own_or_cross : (x y : Node) (w : ℕ) → number_of (length rows) x ≤ 2 * row - 1 → 2 * row - 1 < number_of (length rows) y → Links rows (IsNear rows) x y w
+      → tick_of rows starts last x + w + tail_of from_starts from_ends y ≡ last → Heaviest
+  own_or_cross (start a) (start b) w low high l e = elim (cases_eq b row) [
+    | inl q ↦ (
+        let is_a : a ≡ parent_of rows row = sym l.0.parent ∙ ap (parent_of rows) q in
+        let is_w : w ≡ offset_of rows row = l.1 ∙ ap (offset_of rows) q in
+        inl (rw (is_a, is_w, q) at e))
+    | inr ne ↦ inr (inr (inl (a, b, omega (arith, low, f.child), omega (arith, high, ne), l.0, omega (arith, l.1, e))))
+  ]
+  own_or_cross (start a) (stop b) w low high l e = absurd (omega (arith, low, high, l.1, f.child))
+  own_or_cross (start a) finish w low high l e = absurd l
+  own_or_cross (stop a) (start b) w low high l e = elim (cases_eq b row) [
+    | inl q ↦ (
+        let near : IsNear rows a row = subst (λ (x : ℕ). IsNear rows a x) q l.0 in
+        inr (inl (omega (arith, e, l.1, ap (slice_index from_starts) q, after_wait a near))))
+    | inr ne ↦ inr (inr (inr (inl (a, b, omega (arith, low, f.child), omega (arith, high, ne), l.0, omega (arith, l.1, e)))))
+  ]
+  own_or_cross (stop a) (stop b) w low high l e = absurd l
+  own_or_cross (stop a) finish w low high l e = inr (inr (inr (inr (a, omega (arith, low, f.child), omega (arith, l.1, e)))))
+  own_or_cross finish y w low high l e = absurd l
+
+  -- the span stays where the row can be spawned no earlier, or no heaviest way leads over its spawn
+  module _ (is_last : most ≡ last) where
+    pub early_same : offset ≤ offset_of rows row
+        → (offset_of rows row ≤ offset) ⊎ (start_of starts (parent_of rows row) + offset_of rows row + slice_index from_starts row < last)
+        → IsSpan (moved rows row offset) most
+    early_same falls left =
+        let h = heaviest.reached in
+        let reached : (ready + slice_index from_starts row ≡ most) ⊎ Crosses Before rows starts from_starts row most =
+        elim (own_or_cross h.0 h.1 h.2 h.3 h.4 h.5 h.6) [
+          | inl spawn ↦ elim left [
+            | inl none ↦ inl (omega (arith, spawn, none, is_last, is_ready.after_spawn, ready_low falls))
+            | inr less ↦ absurd (omega (arith, spawn, less))
+          ]
+          | inr (inl own) ↦ inl (omega (arith, own, is_last, ready_low falls))
+          | inr (inr other) ↦ inr (subst (λ (w : ℕ). Crosses Before rows starts from_starts row w) (sym is_last) other)
+        ] in
+        early_is_span (λ w k. omega (arith, is_last, crosses_low w k)) (omega (arith, is_last, ready_low falls)) reached

@@ -15,7 +15,7 @@ use Rattle.boc_sweep.specs.Ways.{AreHeads, ChangesAt, IsHeaviest}
 use Rattle.boc_order.specs.Waits.{Covers}
 use Rattle.boc_sweep.specs.Links.{Node, start, stop, finish, number_of, IsNode, Links, tick_of}
 use Rattle.boc_sweep.specs.Cuts.{AreWays, IsMostAt}
-use Rattle.boc_sweep.proofs.Cut.{cut_heaviest}
+use Rattle.boc_sweep.proofs.Cut.{cut_heaviest, tail_is_last, cut_same}
 use Rattle.boc_sweep.proofs.Standing.{stands, has_end}
 
 module _ (rows : List Row) (hr : IsRows rows) (Waits : ℕ → ℕ → Type 0) (covers : Covers rows Waits) where
@@ -177,3 +177,16 @@ module _ (rows : List Row) (hr : IsRows rows) (Waits : ℕ → ℕ → Type 0) (
   pub cut_is_span : (most : ℕ) → IsMostAt rows Waits starts last tail row ticks most → IsSpan (edited rows row ticks) most
   cut_is_span most m = heaviest_is_span rows hr Waits starts ends after last tail ways (edited rows row ticks) (rows_edited rows hr row ticks f)
       (covers_edited rows Waits row ticks ways.covers) (length-edited rows row ticks) (2 * row) (omega (arith, f.there)) change most m
+
+-- with nothing changed, the span is the heaviest way over each cut, and the weight of the heaviest way from the start of main
+module _ (rows : List Row) (hr : IsRows rows) (Waits : ℕ → ℕ → Type 0) (starts ends : List ℕ) (after : List (Option ℕ)) (last : ℕ) (tail : Node → ℕ)
+    (ways : AreWays rows Waits starts ends after last tail) where
+  pub last_is_tail : tail (start 0) ≡ last
+  last_is_tail = tail_is_last (IsNode (length rows)) (number_of (length rows)) (Links rows Waits) (start 0) finish (tick_of rows starts last) tail
+      (links_inside rows hr Waits ways.covers) (links_rise rows hr Waits ways.covers) (λ x i. node_low (length rows) x i) tt
+      (plan_is_heads rows hr Waits ways.covers starts ends after ways.placed last ways.ended) ways.tails
+
+  pub same_over_cut : (cut : ℕ) → cut < 2 * length rows → IsHeaviest (number_of (length rows)) (Links rows Waits) (tick_of rows starts last) tail cut last
+  same_over_cut cut within = cut_same (IsNode (length rows)) (number_of (length rows)) (Links rows Waits) (start 0) finish (tick_of rows starts last) tail
+      (links_inside rows hr Waits ways.covers) (links_rise rows hr Waits ways.covers) (λ x i. node_low (length rows) x i) tt
+      (plan_is_heads rows hr Waits ways.covers starts ends after ways.placed last ways.ended) ways.tails cut (omega arith) within

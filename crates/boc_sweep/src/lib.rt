@@ -9,10 +9,15 @@
 //! With a row's spawn the cut is just before the row's start: the row's own links are after it, and the links to the
 //! row's start lead over it.
 //!
+//! Most rows keep the span of all: those that have no ticks to lose, and those over whose ticks no heaviest way leads. These are seen at once, since a
+//! tail from the start of main is as heavy as the span. The others are chosen, and a link is looked at only where it leads over the cut of a chosen
+//! row, and is heavier than the least of what these rows have without it. A row's spawn is judged in the same way.
+//!
 //! The spans that the rows would have if one cown after another imposed no order take a pass over the rows for every four cowns: a row is placed
 //! by the latest ends of those before it that need its other cowns. Cowns that no row has have one span.
 #![tactic(auto)]
 
+mod chosen;
 mod freed;
 mod lanes;
 mod lasts;

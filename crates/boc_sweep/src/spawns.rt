@@ -5,29 +5,18 @@ ghost use Rattle.boc_runs.specs.Rows.{IsRows};
 ghost use Rattle.boc_plans.specs.Edits.{IsSpawnSweep, IsEarlySpan};
 ghost use Rattle.boc_order.specs.Standing.{IsPlanOf};
 ghost use Rattle.boc_order.specs.Waits.{AreWaits, HasWaits};
-ghost use Rattle.boc_sweep.specs.Spawns.{HasElders, IsReadyAt, AreSpawnParts};
+ghost use Rattle.boc_sweep.specs.Cuts.{HasTails};
+ghost use Rattle.boc_sweep.specs.Bases.{IsEarlyBase, IsEarlyLeft};
+ghost use Rattle.boc_sweep.specs.Chosen.{AreChosen, AreParts, IsChoice};
+ghost use Rattle.boc_sweep.specs.Crossing.{IsLatestEnd};
+ghost use Rattle.boc_sweep.specs.Spawns.{HasElders, IsReadyAt};
 
-use crate::sweeping::{Cut, all_stretches, latest_ends};
+use crate::chosen::{Chosen, Parts};
+use crate::sweeping::{Cut, tops_over};
 use crate::tails::{Tails, all_tails};
-use crate::windows::all_tops;
 use boc_order::{Earliest, Links};
 use boc_plans::sharing::SeenRows;
 use std::alloc::{AllocError, Global};
-
-// What the span of each row is read from.
-#[derive(Clone, Copy)]
-struct SpawnParts<'a> {
-    // The earliest plan.
-    plan: &'a Earliest,
-    // The heaviest ways to the end of all.
-    tails: &'a Tails,
-    // The offset of each row's earlier sibling.
-    elders: &'a [u32],
-    // The heaviest way over the cut before each row's start by a spawn or a wait of another row.
-    tops: &'a [u64],
-    // The latest end before each row.
-    latest: &'a [u64],
-}
 
 // Returns for each row the offset of its earlier sibling, and 0 for a row without one.
 fn elder_offsets(alloc: Global, rows: &SeenRows) -> Result<Vec<u32>, AllocError>
@@ -56,41 +45,74 @@ fn ready_at(spawned: u64, waits: &[u32], ends: &[u64]) -> u64
     tick
 }
 
-// Returns the span with one row spawned as early as it can be.
-fn span_of(rows: &SeenRows, parts: SpawnParts<'_>, row: usize, waits: &[u32]) -> u64
-    requires child { 0 < row }
+// Returns the heaviest way over the cut before a row's start by the row itself, spawned as early as it can be, or by the end of an earlier row. `None`
+// says that the span stays the same if the row is spawned earlier.
+fn early_base(
+    rows: &SeenRows,
+    plan: &Earliest,
+    tails: &Tails,
+    elders: &[u32],
+    row: usize,
+    waits: &[u32],
+    latest: u64,
+) -> Option<u64>
+    requires shape { IsRows rows.now }
     requires there { row < length rows.now }
     requires waits { HasWaits rows.now row waits.now }
-    requires parts { AreSpawnParts rows.now parts }
-    ensures { IsEarlySpan rows.now row result }
+    requires placed { IsPlanOf rows.now plan.now }
+    requires tails { HasTails rows.now tails.now.starts.items tails.now.ends.items }
+    requires elders { HasElders rows.now elders.now }
+    requires latest { IsLatestEnd rows.now plan.now.starts.items row latest }
+    ensures { IsChoice (IsEarlyLeft rows.now elders.now plan.now.starts.items tails.now.starts.items row)
+        (IsEarlyBase rows.now elders.now plan.now.starts.items plan.now.ends.items tails.now.starts.items row) result }
 {
-    let SpawnParts {
-        plan,
-        tails,
-        elders,
-        tops,
-        latest,
-    } = parts;
-    let parent = rows.parent(row) as usize;
-    let spawned = plan.starts[parent] + u64::from(elders[row] + 1);
-    let own = ready_at(spawned, waits, &plan.ends) + tails.starts[row];
-    own.max(tops[row]).max(latest[row])
+    let start = plan.starts[rows.parent(row) as usize];
+    let tail = tails.starts[row];
+    let offset = rows.offset(row);
+    let least = elders[row] + 1;
+    if least < offset && start + u64::from(offset) + tail >= tails.starts[0] {
+        let ready = ready_at(start + u64::from(least), waits, &plan.ends);
+        Some((ready + tail).max(latest))
+    } else {
+        None
+    }
 }
 
-// Returns the spans.
-fn spans(
+// Returns the rows whose spawns can change the span, each with its base.
+fn chosen_rows(
     alloc: Global,
     rows: &SeenRows,
     waits: &Links,
-    parts: SpawnParts<'_>,
-) -> Result<Vec<u64>, AllocError>
+    plan: &Earliest,
+    tails: &Tails,
+    elders: &[u32],
+) -> Result<Chosen, AllocError>
+    requires shape { IsRows rows.now }
     requires waits { AreWaits rows.now waits.now }
-    requires parts { AreSpawnParts rows.now parts }
+    requires placed { IsPlanOf rows.now plan.now }
+    requires tails { HasTails rows.now tails.now.starts.items tails.now.ends.items }
+    requires elders { HasElders rows.now elders.now }
+    ensures { IfOk result (AreChosen (IsEarlyLeft rows.now elders.now plan.now.starts.items tails.now.starts.items)
+        (IsEarlyBase rows.now elders.now plan.now.starts.items plan.now.ends.items tails.now.starts.items) (length rows.now)) }
+{
+    let mut chosen = Chosen::new(alloc, rows.len())?;
+    let mut latest = 0;
+    for row in 0..rows.len() {
+        chosen.put(early_base(rows, plan, tails, elders, row, waits.of(row), latest));
+        latest = plan.ends[row].max(latest);
+    }
+    Ok(chosen)
+}
+
+// Returns the spans.
+fn spans(alloc: Global, rows: &SeenRows, parts: Parts<'_>) -> Result<Vec<u64>, AllocError>
+    requires shape { IsRows rows.now }
+    requires parts { AreParts (λ row span. 0 < row → IsEarlySpan rows.now row span) (length rows.now) parts }
     ensures { IfOk result (λ s. IsSpawnSweep rows.now s.items) }
 {
     let mut spans = Vec::with_capacity(alloc, rows.len())?;
     for row in 1..rows.len() {
-        spans.push_reserved(span_of(rows, parts, row, waits.of(row)));
+        spans.push_reserved(parts.span_of(row));
     }
     Ok(spans)
 }
@@ -112,16 +134,13 @@ pub fn spawn_sweep(
     ensures { IfOk result (λ spans. IsSpawnSweep rows.now spans.items) }
 {
     let tails = all_tails(alloc, rows, waits)?;
-    let stretches = all_stretches(alloc, rows, waits, plan, &tails, Cut::Before)?;
-    let tops = all_tops(alloc, &stretches, rows.len())?;
-    let latest = latest_ends(alloc, rows, plan)?;
     let elders = elder_offsets(alloc, rows)?;
-    let parts = SpawnParts {
-        plan,
-        tails: &tails,
-        elders: &elders,
+    let chosen = chosen_rows(alloc, rows, waits, plan, &tails, &elders)?;
+    let tops = tops_over(alloc, rows, waits, plan, &tails, Cut::Before, &chosen)?;
+    let parts = Parts {
+        chosen: &chosen,
         tops: &tops,
-        latest: &latest,
+        span: tails.starts[0],
     };
-    spans(alloc, rows, waits, parts)
+    spans(alloc, rows, parts)
 }

@@ -6,10 +6,12 @@ ghost use Rattle.boc_plans.specs.Edits.{IsSweep, IsLeastSpan};
 ghost use Rattle.boc_order.specs.Standing.{IsPlanOf};
 ghost use Rattle.boc_order.specs.Waits.{AreWaits, HasWaits};
 ghost use Rattle.boc_sweep.specs.Cuts.{first_cut, HasTails};
-ghost use Rattle.boc_sweep.specs.Parts.{AreParts, HasLatestEnds};
-ghost use Rattle.boc_sweep.specs.Crossing.{AreCrossing, ArePushed};
+ghost use Rattle.boc_sweep.specs.Bases.{AreTopsOver, IsLeastBase, IsLeastLeft};
+ghost use Rattle.boc_sweep.specs.Chosen.{AreChosen, AreCounted, AreParts, IsChoice, IsRead, IsReadable};
+ghost use Rattle.boc_sweep.specs.Crossing.{AreCrossing, ArePushed, IsLatestEnd};
 ghost use Rattle.boc_sweep.specs.Lasts.{HasLasts};
 
+use crate::chosen::{Chosen, Parts};
 use crate::lasts::least_ticks;
 use crate::tails::{Tails, all_tails};
 use crate::windows::{Stretch, all_tops};
@@ -29,21 +31,6 @@ pub enum Cut {
     Behind,
 }
 
-// What the span of each row is read from.
-#[derive(Clone, Copy)]
-struct Parts<'a> {
-    // The earliest plan.
-    plan: &'a Earliest,
-    // The heaviest ways to the end of all.
-    tails: &'a Tails,
-    // The offset of each row's last child.
-    lasts: &'a [u32],
-    // The heaviest way over each row's cut by a spawn or a wait.
-    tops: &'a [u64],
-    // The latest end before each row.
-    latest: &'a [u64],
-}
-
 // The fewest rows that a thread is started for. The span of a row is found fast, so that as many rows as there can be make at most four
 // pieces, and fewer than half as many stay in one.
 const LEAST_PIECE: usize = MOST_ROWS / 4;
@@ -54,19 +41,17 @@ fn push_waits(
     row: u32,
     tail: u64,
     ends: &[u64],
+    chosen: &Chosen,
     stretches: &mut Vec<Stretch>,
 ) -> Result<(), AllocError>
+    requires there { row < length chosen.now.before.items }
     requires before { (a : ℕ) → Contains waits.now a → a < row × (a < length ends.now) }
     requires tail { tail ≤ MOST_ROWS * MOST_TICKS }
     requires low { (a : ℕ) → a < length ends.now → slice_index ends.now a ≤ MOST_ROWS * MOST_TICKS }
-    ensures { IfOk result (λ _. ArePushed waits.now row tail ends.now stretches.old.items (length waits.now) stretches.new.items) }
+    ensures { IfOk result (λ _. ArePushed waits.now row tail ends.now chosen.now stretches.old.items (length waits.now) stretches.new.items) }
 {
     for before in waits {
-        stretches.push(Stretch {
-            low: *before + 1,
-            high: row,
-            value: ends[*before as usize] + tail,
-        })?;
+        chosen.push(*before + 1, row, ends[*before as usize] + tail, stretches)?;
     }
     Ok(())
 }
@@ -90,6 +75,7 @@ fn push_links(
     plan: &Earliest,
     tails: &Tails,
     cut: Cut,
+    chosen: &Chosen,
     stretches: &mut Vec<Stretch>,
 ) -> Result<(), AllocError>
     requires shape { IsRows rows.now }
@@ -97,71 +83,124 @@ fn push_links(
     requires waits { HasWaits rows.now row waits.now }
     requires placed { IsPlanOf rows.now plan.now }
     requires tails { HasTails rows.now tails.now.starts.items tails.now.ends.items }
-    requires crossing { AreCrossing cut rows.now plan.now.starts.items tails.now.starts.items row stretches.old.items }
-    ensures { IfOk result (λ _. AreCrossing cut rows.now plan.now.starts.items tails.now.starts.items (row + 1) stretches.new.items) }
+    requires counted { AreCounted (length rows.now) chosen.now }
+    requires crossing { AreCrossing cut rows.now plan.now.starts.items tails.now.starts.items chosen.now row stretches.old.items }
+    ensures { IfOk result (λ _. AreCrossing cut rows.now plan.now.starts.items tails.now.starts.items chosen.now (row + 1) stretches.new.items) }
 {
     let parent = rows.parent(row);
     let tail = tails.starts[row];
-    stretches.push(Stretch {
-        low: first_cut(cut, parent),
-        high: row as u32,
-        value: plan.starts[parent as usize] + u64::from(rows.offset(row)) + tail,
-    })?;
-    push_waits(waits, row as u32, tail, &plan.ends, stretches)?;
+    let value = plan.starts[parent as usize] + u64::from(rows.offset(row)) + tail;
+    chosen.push(first_cut(cut, parent), row as u32, value, stretches)?;
+    push_waits(waits, row as u32, tail, &plan.ends, chosen, stretches)?;
     Ok(())
 }
 
-/// Returns the links that lead over the cuts of rows, as stretches of those rows.
-pub fn all_stretches(
+// Returns the links that lead over the cuts of chosen rows, as stretches of these, but for links that are no heavier than the least base.
+fn all_stretches(
     alloc: Global,
     rows: &SeenRows,
     waits: &Links,
     plan: &Earliest,
     tails: &Tails,
     cut: Cut,
+    chosen: &Chosen,
 ) -> Result<Vec<Stretch>, AllocError>
     requires shape { IsRows rows.now }
     requires waits { AreWaits rows.now waits.now }
     requires placed { IsPlanOf rows.now plan.now }
     requires tails { HasTails rows.now tails.now.starts.items tails.now.ends.items }
-    ensures { IfOk result (λ s. AreCrossing cut rows.now plan.now.starts.items tails.now.starts.items (length rows.now) s.items) }
+    requires counted { AreCounted (length rows.now) chosen.now }
+    ensures { IfOk result (λ s. AreCrossing cut rows.now plan.now.starts.items tails.now.starts.items chosen.now (length rows.now) s.items) }
 {
     let mut stretches = Vec::new(alloc);
     for row in 0..rows.len() {
-        push_links(rows, row, waits.of(row), plan, tails, cut, &mut stretches)?;
+        push_links(
+            rows,
+            row,
+            waits.of(row),
+            plan,
+            tails,
+            cut,
+            chosen,
+            &mut stretches,
+        )?;
     }
     Ok(stretches)
 }
 
-/// Returns for each row the latest end among the rows before it.
-pub fn latest_ends(alloc: Global, rows: &SeenRows, plan: &Earliest) -> Result<Vec<u64>, AllocError>
-    requires { IsPlanOf rows.now plan.now }
-    ensures { IfOk result (λ latest. HasLatestEnds rows.now plan.now.starts.items latest.items) }
+/// Returns for each chosen row the heaviest way over its cut by a spawn or a wait, or less if the least base is as heavy. `AllocError` says that memory
+/// was refused.
+pub fn tops_over(
+    alloc: Global,
+    rows: &SeenRows,
+    waits: &Links,
+    plan: &Earliest,
+    tails: &Tails,
+    cut: Cut,
+    chosen: &Chosen,
+) -> Result<Vec<u64>, AllocError>
+    requires shape { IsRows rows.now }
+    requires waits { AreWaits rows.now waits.now }
+    requires placed { IsPlanOf rows.now plan.now }
+    requires tails { HasTails rows.now tails.now.starts.items tails.now.ends.items }
+    requires counted { AreCounted (length rows.now) chosen.now }
+    ensures { IfOk result (λ tops. AreTopsOver cut rows.now plan.now.starts.items tails.now.starts.items chosen.now tops.items) }
 {
-    let mut list = Vec::with_capacity(alloc, rows.len())?;
-    let mut latest = 0;
-    for row in 0..rows.len() {
-        list.push_reserved(latest);
-        latest = plan.ends[row].max(latest);
-    }
-    Ok(list)
+    let stretches = all_stretches(alloc, rows, waits, plan, tails, cut, chosen)?;
+    all_tops(alloc, &stretches, chosen.bases.len())
 }
 
-// Returns the span with one row at its least ticks.
-fn span_of(rows: &SeenRows, parts: Parts<'_>, row: usize) -> u64
+// Returns the heaviest way over a row's cut by the row itself at its least ticks, or by the end of an earlier row. `None` says that the span stays
+// the same without the ticks that the row can lose.
+fn least_base(
+    rows: &SeenRows,
+    plan: &Earliest,
+    tails: &Tails,
+    lasts: &[u32],
+    row: usize,
+    latest: u64,
+) -> Option<u64>
+    requires shape { IsRows rows.now }
     requires there { row < length rows.now }
-    requires parts { AreParts rows.now parts }
-    ensures { IsLeastSpan rows.now row result }
+    requires placed { IsPlanOf rows.now plan.now }
+    requires tails { HasTails rows.now tails.now.starts.items tails.now.ends.items }
+    requires lasts { HasLasts rows.now lasts.now }
+    requires latest { IsLatestEnd rows.now plan.now.starts.items row latest }
+    ensures { IsChoice (IsLeastLeft rows.now lasts.now plan.now.starts.items tails.now.starts.items tails.now.ends.items row)
+        (IsLeastBase rows.now lasts.now plan.now.starts.items tails.now.ends.items row) result }
 {
-    let Parts {
-        plan,
-        tails,
-        lasts,
-        tops,
-        latest,
-    } = parts;
-    let own = plan.starts[row] + u64::from(least_ticks(lasts[row])) + tails.ends[row];
-    own.max(tops[row]).max(latest[row])
+    let around = plan.starts[row] + tails.ends[row];
+    let least = least_ticks(lasts[row]);
+    let ticks = rows.ticks(row);
+    if least < ticks && around + u64::from(ticks) >= tails.starts[0] {
+        Some((around + u64::from(least)).max(latest))
+    } else {
+        None
+    }
+}
+
+// Returns the rows whose ticks can change the span, each with its base.
+fn chosen_rows(
+    alloc: Global,
+    rows: &SeenRows,
+    plan: &Earliest,
+    tails: &Tails,
+    lasts: &[u32],
+) -> Result<Chosen, AllocError>
+    requires shape { IsRows rows.now }
+    requires placed { IsPlanOf rows.now plan.now }
+    requires tails { HasTails rows.now tails.now.starts.items tails.now.ends.items }
+    requires lasts { HasLasts rows.now lasts.now }
+    ensures { IfOk result (AreChosen (IsLeastLeft rows.now lasts.now plan.now.starts.items tails.now.starts.items tails.now.ends.items)
+        (IsLeastBase rows.now lasts.now plan.now.starts.items tails.now.ends.items) (length rows.now)) }
+{
+    let mut chosen = Chosen::new(alloc, rows.len())?;
+    let mut latest = 0;
+    for row in 0..rows.len() {
+        chosen.put(least_base(rows, plan, tails, lasts, row, latest));
+        latest = plan.ends[row].max(latest);
+    }
+    Ok(chosen)
 }
 
 // Returns the spans. Threads share out the rows where these are enough for two pieces.
@@ -171,7 +210,7 @@ fn spans(
     rows: &SeenRows,
     parts: Parts<'_>,
 ) -> Result<Vec<u64>, AllocError>
-    requires { AreParts rows.now parts }
+    requires parts { AreParts (IsLeastSpan rows.now) (length rows.now) parts }
     ensures { IfOk result (λ s. IsSweep rows.now s.items) }
 {
     (0..rows.len())
@@ -179,9 +218,9 @@ fn spans(
         .with_min_len(LEAST_PIECE)
         .map(
             |row: usize| -> u64
-                requires { (row < length rows.now) × AreParts rows.now parts }
-                ensures { IsLeastSpan rows.entry.now row result }
-            { span_of(rows, parts, row) },
+                requires { IsReadable parts row }
+                ensures { IsRead parts.entry row result }
+            { parts.span_of(row) },
         )
         .collect(rt, alloc)
 }
@@ -206,15 +245,12 @@ pub fn sweep(
     ensures { IfOk result (λ spans. IsSweep rows.now spans.items) }
 {
     let tails = all_tails(alloc, rows, waits)?;
-    let stretches = all_stretches(alloc, rows, waits, plan, &tails, Cut::Behind)?;
-    let tops = all_tops(alloc, &stretches, rows.len())?;
-    let latest = latest_ends(alloc, rows, plan)?;
+    let chosen = chosen_rows(alloc, rows, plan, &tails, lasts)?;
+    let tops = tops_over(alloc, rows, waits, plan, &tails, Cut::Behind, &chosen)?;
     let parts = Parts {
-        plan,
-        tails: &tails,
-        lasts,
+        chosen: &chosen,
         tops: &tops,
-        latest: &latest,
+        span: tails.starts[0],
     };
     spans(rt, alloc, rows, parts)
 }

@@ -1,0 +1,13 @@
+use Rattle.std.proofs.Common.{length}
+use Rattle.boc_sweep.specs.Bases.{IsLeastBase, IsLeastLeft}
+use Rattle.boc_sweep.specs.Chosen.{AreChosen, HasRoom}
+use Rattle.boc_sweep.specs.Crossing.{IsLatestEnd}
+use Rattle.boc_sweep.proofs.sweeping.chosen_rows.Given as goal
+
+abbrev pub invariant-loop-row : goal.invariant-loop-row
+invariant-loop-row l = record {
+  chosen : AreChosen (IsLeastLeft l.rows l.lasts l.plan.starts.items l.tails.starts.items l.tails.ends.items)
+      (IsLeastBase l.rows l.lasts l.plan.starts.items l.tails.ends.items) l.row l.chosen;
+  room : HasRoom (length l.rows) l.chosen;
+  latest : IsLatestEnd l.rows l.plan.starts.items l.row l.latest;
+}

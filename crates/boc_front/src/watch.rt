@@ -73,6 +73,11 @@ impl<'r, R: Wait> Watch<'r, R> {
 impl<'r, R: Wait + Sync> Gate for Watch<'r, R> {
     ghost always_on = { Unit {0} };
 
+    // It lets every worker go on.
+    fn may_wait(&self) -> bool {
+        false
+    }
+
     #[inline(always)]
     fn at_body(&self, _worker: u32, _row: u32) -> Go {
         Go::On

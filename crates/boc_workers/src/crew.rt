@@ -1,6 +1,6 @@
 // The threads of a run.
 
-ghost use Rattle.std.specs.Prelude.{◌≡◌, ◌≢◌, ◌≤◌, IfOk, IfErr, sum, vec_len};
+ghost use Rattle.std.specs.Prelude.{◌≡◌, ◌≢◌, ◌<◌, ◌≤◌, IfOk, IfErr, sum, vec_len};
 ghost use Rattle.boc_program.specs.declared.limits.TheConstants.{MOST_RUNNERS};
 ghost use Rattle.boc_runs.specs.Records.{IsRecordOf};
 ghost use Rattle.boc_runs.specs.Run.{config_of};
@@ -12,6 +12,7 @@ ghost use Rattle.boc_workers.specs.declared.fault.RunFault.TheVariants as faults
 use crate::fault::RunFault;
 use crate::gate::{Gate, Go};
 use crate::made::Made;
+use crate::pace::Pace;
 use crate::shared::Shared;
 use crate::waiters::{Call, Waiters};
 use boc_dispatch::{Step, Tell, Turn, Worker};
@@ -26,7 +27,8 @@ use std::sync::atomic::{AtomicU64, Ordering};
 use std::sync::ledger::{Blank, Ledger, Share};
 use std::sync::{Condvar, Mutex, MutexGuard, Wait};
 use std::thread;
-use std::thread::{Builder, Scope, Threads};
+use std::thread::{Builder, Scope, Threads, available_parallelism, yield_now};
+use std::time::Duration;
 
 /// The record of a run, what is reported of its rows, and how many steps each worker made.
 #[derive(Drop)]
@@ -42,11 +44,22 @@ pub struct RunAnswer {
 // The bytes of a worker's stack.
 const STACK: usize = 2 << 20;
 
-// How many pauses there are after each try for the lock, before a worker sleeps for it.
+// How many pauses there are before each further try for the lock, before a worker yields between its tries.
 const TRIES: [u32; 8] = [16, 32, 64, 128, 256, 256, 256, 256];
 
 // How long a worker looks for what it waits for before it sleeps, in pauses.
 const LOOKS: u32 = 500;
+
+// A wait for the lock is long from this try on.
+const LONG: usize = 3;
+
+// For how many microseconds a worker withdraws at a time, and how many steps the others make in that time if they don't miss it.
+const AWAY: u64 = 500;
+
+const STEPS_AWAY: u64 = 1000;
+
+// After this many seconds a worker that sleeps looks again whether it was called. The worker that calls it also wakes it.
+const LONGEST_SLEEP: u64 = 60;
 
 /// Runs a program on the given number of workers, each in a thread of its own. There is no record after a fault. Of several faults the
 /// one that was noted first is answered; but that the program is a stranger comes before it, and that the run is
@@ -101,11 +114,13 @@ pub(crate) fn run_by<L: Ledger + Send + Sync, G: Gate, R: Threads + Wait + Sync>
     let Ok(shared) = Shared::new(alloc, &compiled, book, tell) else {
         return Err(RunFault::Memory);
     };
+    let spare = spare_of(rt, gate, workers);
     let hall = Hall {
         rt,
         alloc,
         lock: Mutex::new(shared),
-        waiters: Waiters::new(),
+        waiters: Waiters::new(spare, most_asleep(gate, workers)),
+        awake: u64::from(workers) - spare,
         freed: Condvar::new(),
         seen: Condvar::new(),
         ready: Condvar::new(),
@@ -118,6 +133,7 @@ pub(crate) fn run_by<L: Ledger + Send + Sync, G: Gate, R: Threads + Wait + Sync>
         alloc: _,
         lock,
         waiters: _,
+        awake: _,
         freed: _,
         seen: _,
         ready: _,
@@ -133,6 +149,8 @@ struct Hall<'a, 'g, 'r, L: Ledger, G: Gate, R> {
     alloc: Global,
     lock: Mutex<Shared<'a, 'g, L, G>>,
     waiters: Waiters,
+    // The workers with a number below this one begin at once, the others once they are called.
+    awake: u64,
     // Rings where a request was settled or flagged, for those who are blocked.
     freed: Condvar,
     // Rings where a row is ready, for those who look for one.
@@ -142,6 +160,32 @@ struct Hall<'a, 'g, 'r, L: Ledger, G: Gate, R> {
     gate: &'g G,
     // The bytes of each thread's stack.
     stack: usize,
+}
+
+// Returns how many workers are left asleep. More than there are processors only hold each other up, unless a gate may have one wait for another.
+fn spare_of<R: Threads, G: Gate>(rt: &R, gate: &G, workers: u32) -> u64
+    requires { 1 ≤ workers }
+    ensures { result < workers }
+{
+    if gate.may_wait() {
+        return 0;
+    }
+    match available_parallelism(rt) {
+        Ok(processors) => u64::from(workers).saturating_sub(processors.get() as u64),
+        Err(_) => 0,
+    }
+}
+
+// Returns the number that sleep at most if a worker withdraws: none if a gate may have one wait for another, and else all others.
+fn most_asleep<G: Gate>(gate: &G, workers: u32) -> u64
+    requires { 1 ≤ workers }
+    ensures { result < workers }
+{
+    if gate.may_wait() {
+        0
+    } else {
+        u64::from(workers) - 1
+    }
 }
 
 // Returns what the workers made, with the whole ledger, once all of them have ended.
@@ -213,13 +257,15 @@ impl<'a, 'g, 'r, L: Ledger, G: Gate, R: Wait> Hall<'a, 'g, 'r, L, G, R> {
     fn work(&self, number: u32, made: Made<L>) -> Made<L> {
         let mut made = made;
         let mut worker = Worker::new(number);
+        let mut pace = Pace::new();
+        self.begin(number);
         for _ in self.rt.forever() {
             if worker.think(self.alloc).is_err() {
                 self.stop(RunFault::Memory);
                 break;
             }
             let served = worker.row();
-            match self.turn(&mut worker, &mut made) {
+            match self.turn(&mut worker, &mut made, &mut pace) {
                 None | Some(Turn::Quiet) => break,
                 Some(Turn::Moved(step)) => {
                     let row = served.or(worker.row()).unwrap_or(0);
@@ -234,18 +280,28 @@ impl<'a, 'g, 'r, L: Ledger, G: Gate, R: Wait> Hall<'a, 'g, 'r, L, G, R> {
         made
     }
 
+    // Has a worker sleep until it is called, if it is one of those that begin asleep.
+    fn begin(&self, number: u32) {
+        if u64::from(number) >= self.awake {
+            drop(self.until_called(self.enter()));
+        }
+    }
+
     // Makes the next turn of a worker that isn't to wait for others.
-    fn turn(&self, worker: &mut Worker<'a>, made: &mut Made<L>) -> Option<Turn> {
+    fn turn(&self, worker: &mut Worker<'a>, made: &mut Made<L>, pace: &mut Pace) -> Option<Turn> {
         let waiters = &self.waiters;
-        let mut shared = self.enter();
+        let mut shared = match self.lock.try_lock() {
+            Some(shared) => shared,
+            None => self.enter_at_pace(worker, pace),
+        };
         let mut has_looked = false;
         for _ in self.rt.forever() {
             let turn = shared.turn(worker, made);
             shared = match (turn, has_looked) {
                 (Some(Turn::Blocked), false) => self.look(shared, &waiters.blocked, &self.freed),
-                (Some(Turn::Blocked), true) => self.sleep(shared, &waiters.blocked, &self.freed),
+                (Some(Turn::Blocked), true) => self.sleep(shared),
                 (Some(Turn::NoneReady), false) => self.look(shared, &waiters.looking, &self.seen),
-                (Some(Turn::NoneReady), true) => self.sleep(shared, &waiters.sleeping, &self.ready),
+                (Some(Turn::NoneReady), true) => self.rest(shared),
                 _ => {
                     let call = waiters.call_after(&shared, turn);
                     drop(shared);
@@ -258,17 +314,74 @@ impl<'a, 'g, 'r, L: Ledger, G: Gate, R: Wait> Hall<'a, 'g, 'r, L, G, R> {
         None
     }
 
-    // Takes the lock. For a short while it is tried at growing distances: a worker that unlocks it then has none to wake.
+    // Takes the lock.
+    #[inline(always)]
     fn enter(&self) -> MutexGuard<'_, Shared<'a, 'g, L, G>> {
-        for pauses in &TRIES {
+        if let Some(shared) = self.lock.try_lock() {
+            return shared;
+        }
+        let mut pace = Pace::new();
+        self.enter_later(&mut pace)
+    }
+
+    // Takes the lock, which another worker has. It is tried at growing distances, and no worker sleeps for it: one that unlocks it has none to wake.
+    #[inline(never)]
+    fn enter_later(&self, pace: &mut Pace) -> MutexGuard<'_, Shared<'a, 'g, L, G>> {
+        for tries in 0..TRIES.len() {
+            for _ in 0..TRIES[tries] {
+                spin_loop();
+            }
+            if let Some(shared) = self.lock.try_lock() {
+                if tries >= LONG {
+                    pace.count();
+                }
+                return shared;
+            }
+        }
+        pace.count();
+        for _ in self.rt.forever() {
+            yield_now();
             if let Some(shared) = self.lock.try_lock() {
                 return shared;
             }
-            for _ in 0..*pauses {
-                spin_loop();
+        }
+        unreachable!()
+    }
+
+    // Takes the lock, which another worker has, for a turn. A worker without a row that has waited long too often first withdraws.
+    #[inline(never)]
+    fn enter_at_pace(
+        &self,
+        worker: &Worker<'a>,
+        pace: &mut Pace,
+    ) -> MutexGuard<'_, Shared<'a, 'g, L, G>> {
+        let shared = self.enter_later(pace);
+        if pace.is_slow() && worker.row().is_none() && self.waiters.may_withdraw() {
+            self.withdraw(shared, pace)
+        } else {
+            shared
+        }
+    }
+
+    // Has a worker sleep while the others make many steps without it, or leave no row ready.
+    fn withdraw<'s>(
+        &'s self,
+        shared: MutexGuard<'s, Shared<'a, 'g, L, G>>,
+        pace: &mut Pace,
+    ) -> MutexGuard<'s, Shared<'a, 'g, L, G>> {
+        let mut shared = shared;
+        self.waiters.withdraw();
+        for _ in self.rt.forever() {
+            let before = shared.steps();
+            shared = self.doze(shared, &self.ready, Duration::from_micros(AWAY));
+            let steps = shared.steps().saturating_sub(before);
+            let is_missed = shared.has_ready() && steps < STEPS_AWAY;
+            if self.waiters.may_return(is_missed) {
+                pace.begin_again(is_missed);
+                break;
             }
         }
-        self.lock.lock(self.rt)
+        shared
     }
 
     // Looks for a while, with the lock free, whether this bell rings.
@@ -292,17 +405,53 @@ impl<'a, 'g, 'r, L: Ledger, G: Gate, R: Wait> Hall<'a, 'g, 'r, L, G, R> {
         shared
     }
 
-    // Sleeps until this bell rings.
+    // Sleeps until a request was settled or flagged.
     fn sleep<'s>(
         &'s self,
         shared: MutexGuard<'s, Shared<'a, 'g, L, G>>,
-        count: &AtomicU64,
-        bell: &Condvar,
     ) -> MutexGuard<'s, Shared<'a, 'g, L, G>> {
-        count.fetch_add(1, Ordering::SeqCst);
-        let shared = bell.wait(self.rt, shared);
-        count.fetch_sub(1, Ordering::SeqCst);
+        let blocked = &self.waiters.blocked;
+        blocked.fetch_add(1, Ordering::SeqCst);
+        let shared = self.doze(shared, &self.freed, Duration::from_secs(LONGEST_SLEEP));
+        blocked.fetch_sub(1, Ordering::SeqCst);
         shared
+    }
+
+    // Counts a worker as asleep, and has it sleep until it is called.
+    fn rest<'s>(
+        &'s self,
+        shared: MutexGuard<'s, Shared<'a, 'g, L, G>>,
+    ) -> MutexGuard<'s, Shared<'a, 'g, L, G>> {
+        self.waiters.begin_sleep();
+        self.until_called(shared)
+    }
+
+    // Sleeps until it is called since a row is ready, or since the run has ended.
+    fn until_called<'s>(
+        &'s self,
+        shared: MutexGuard<'s, Shared<'a, 'g, L, G>>,
+    ) -> MutexGuard<'s, Shared<'a, 'g, L, G>> {
+        let mut shared = shared;
+        for _ in self.rt.forever() {
+            if self.waiters.may_wake() {
+                break;
+            }
+            shared = self.doze(shared, &self.ready, Duration::from_secs(LONGEST_SLEEP));
+        }
+        shared
+    }
+
+    // Frees the lock, sleeps until this bell rings, and takes the lock again. It may return though the bell did not ring, and does after this time.
+    fn doze<'s>(
+        &'s self,
+        shared: MutexGuard<'s, Shared<'a, 'g, L, G>>,
+        bell: &Condvar,
+        longest: Duration,
+    ) -> MutexGuard<'s, Shared<'a, 'g, L, G>> {
+        let rung = bell.notifications();
+        drop(shared);
+        bell.sleep(self.rt, rung, longest);
+        self.enter()
     }
 
     // Calls those who wait and may go on.
@@ -334,7 +483,10 @@ impl<'a, 'g, 'r, L: Ledger, G: Gate, R: Wait> Hall<'a, 'g, 'r, L, G, R> {
     fn stop(&self, fault: RunFault)
         requires { MayNote G.always_on fault }
     {
-        self.enter().note(fault);
-        self.call(Call::Everybody);
+        let mut shared = self.enter();
+        shared.note(fault);
+        let call = self.waiters.end();
+        drop(shared);
+        self.call(call);
     }
 }

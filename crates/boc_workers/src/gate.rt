@@ -1,6 +1,6 @@
 // What sees the workers between their steps.
 
-ghost use Rattle.std.specs.Prelude.{◌≡◌};
+ghost use Rattle.std.specs.Prelude.{◌≡◌, false};
 
 use boc_dispatch::Step;
 
@@ -18,6 +18,11 @@ pub trait Gate: Sync {
     // A gate whose type has this fact stops no worker.
     ghost always_on: { Type 0 };
 
+    /// May it hold a worker until another one comes? Then no worker of the run sleeps while a row is ready. If not, as many are awake as there are processors.
+    fn may_wait(&self) -> bool {
+        true
+    }
+
     /// May the worker run the body of this row, which it has just started?
     fn at_body(&self, worker: u32, row: u32) -> Go
         ensures { always_on → result ≡ Go.On };
@@ -33,6 +38,12 @@ pub struct OpenGate;
 
 impl Gate for OpenGate {
     ghost always_on = { Unit {0} };
+
+    fn may_wait(&self) -> bool
+        ensures { result ≡ false }
+    {
+        false
+    }
 
     fn at_body(&self, _worker: u32, _row: u32) -> Go {
         Go::On

@@ -6,6 +6,7 @@ mod crew;
 mod fault;
 mod gate;
 mod made;
+mod pace;
 mod shared;
 mod waiters;
 

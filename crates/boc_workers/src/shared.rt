@@ -141,6 +141,13 @@ impl<'a, 'g, L: Ledger, G: Gate> Shared<'a, 'g, L, G> {
         self.dispatcher.has_ready()
     }
 
+    /// Returns how many steps were made.
+    pub(crate) fn steps(&self) -> u64
+        ensures { result ≡ self.now.dispatcher.state.steps }
+    {
+        self.dispatcher.steps()
+    }
+
     /// Notes a fault, unless one is noted already.
     pub fn note(&mut self, fault: RunFault)
         requires { MayNote G.always_on fault }

@@ -2,5 +2,6 @@
 #![tactic(auto)]
 
 mod playing;
+mod waiting;
 
 pub use playing::play;

@@ -1,14 +1,15 @@
 // A front without the rows that have no wish.
 
-ghost use Rattle.std.specs.Prelude.{◌≡◌, ◌<◌, ◌≤◌, ◌^◌, ◌++◌, [], ◌∷◌, if◌then◌else◌, length, IfOk, OnOk, All, option_to_list};
+ghost use Rattle.std.specs.Prelude.{◌≡◌, ◌<◌, ◌≤◌, ◌^◌, ◌++◌, [], ◌∷◌, if◌then◌else◌, length, IfOk, IsPermutation, OnOk, All, option_to_list};
 ghost use Rattle.boc_fronts.specs.Steps.{IsArranged};
-ghost use Rattle.boc_front_rows.specs.Orders.{done_of, kept_from, moved as moved_places, places_from, rows_moved};
-ghost use Rattle.boc_front_rows.specs.Rows.{AreIn, AreLow, plains};
+ghost use Rattle.boc_front_rows.specs.Orders.{AreMoved, IsMoved, done_of, kept_from, moved as moved_places, placed, places_of};
+ghost use Rattle.boc_front_rows.specs.Rows.{AreIn, AreLow, plain, plains};
 ghost use Rattle.boc_front_rows.specs.Seen.{front_of};
 
 use crate::row::{Front, LiveRow};
 use crate::wish_lists::WishLists;
 use std::alloc::{AllocError, Global};
+use std::cmp::Ordering;
 
 // Returns for each row whether it has no wish.
 fn done(alloc: Global, lists: &WishLists, live: &[LiveRow]) -> Result<Vec<bool>, AllocError>
@@ -33,8 +34,22 @@ fn keep(kept: &mut Vec<u16>, place: usize, done: bool) -> Result<(), AllocError>
     Ok(())
 }
 
+// Compares the rows at two places by the numbers of their lists of wishes and then by their claims. Of rows that are alike the first is less.
+fn compare(live: &[LiveRow], place: u16, other: u16) -> Ordering {
+    let Some(row) = live.get(place as usize) else {
+        return place.cmp(&other);
+    };
+    let Some(than) = live.get(other as usize) else {
+        return place.cmp(&other);
+    };
+    row.wishes
+        .cmp(&than.wishes)
+        .then(row.claims.as_slice().cmp(than.claims.as_slice()))
+        .then(place.cmp(&other))
+}
+
 // Returns the places of the rows that have a wish.
-fn kept(alloc: Global, done: &[bool]) -> Result<Vec<u16>, AllocError>
+fn wishing(alloc: Global, done: &[bool]) -> Result<Vec<u16>, AllocError>
     requires { length done.now < 2 ^ 16 }
     ensures { IfOk result (λ kept. kept.items ≡ kept_from 0 done.now) }
 {
@@ -45,21 +60,36 @@ fn kept(alloc: Global, done: &[bool]) -> Result<Vec<u16>, AllocError>
     Ok(kept)
 }
 
-// Returns for each row its new place, if it has a wish.
-fn places(alloc: Global, done: &[bool]) -> Result<Vec<Option<u16>>, AllocError>
+// Returns the places of the rows that have a wish, sorted by the numbers of their lists of wishes and then by their claims. So fronts that differ only in the
+// order in which these rows came are mostly equal.
+fn kept(alloc: Global, done: &[bool], live: &[LiveRow]) -> Result<Vec<u16>, AllocError>
     requires { length done.now < 2 ^ 16 }
-    ensures { IfOk result (λ places. places.items ≡ places_from 0 done.now) }
+    ensures { IfOk result (λ kept. IsPermutation (kept_from 0 done.now) kept.items) }
 {
-    let mut places = Vec::new(alloc);
-    let mut next: usize = 0;
-    for is_done in done {
-        if *is_done {
-            places.push(None)?;
-        } else {
-            places.push(Some(next as u16))?;
-            next += 1;
-        }
+    let mut kept = wishing(alloc, done)?;
+    kept.sort_unstable_by(|place, other| compare(live, *place, *other));
+    Ok(kept)
+}
+
+// Notes at each of these places its index among them.
+fn place(places: &mut [Option<u16>], kept: &[u16])
+    requires few { length kept.now < 2 ^ 16 }
+    requires there { All (λ place. place < length places.old) kept.now }
+    ensures { places.new ≡ placed 0 places.old kept.now }
+{
+    for (next, place) in kept.iter().enumerate() {
+        places[*place as usize] = Some(next as u16);
     }
+}
+
+// Returns for each row its new place, if it is kept.
+fn places(alloc: Global, done: &[bool], kept: &[u16]) -> Result<Vec<Option<u16>>, AllocError>
+    requires few { length kept.now < 2 ^ 16 }
+    requires there { All (λ place. place < length done.now) kept.now }
+    ensures { IfOk result (λ places. places.items ≡ places_of (length done.now) kept.now) }
+{
+    let mut places = vec![in alloc; None; done.len()]?;
+    place(&mut places, kept);
     Ok(places)
 }
 
@@ -74,7 +104,11 @@ fn add(after: &mut Vec<u16>, place: Option<u16>) -> Result<(), AllocError>
 }
 
 // Returns the new places of the rows at these places that stay.
-fn moved(alloc: Global, places: &[Option<u16>], before: &[u16]) -> Result<Vec<u16>, AllocError>
+fn places_after(
+    alloc: Global,
+    places: &[Option<u16>],
+    before: &[u16],
+) -> Result<Vec<u16>, AllocError>
     requires { All (λ place. place < length places.now) before.now }
     ensures { IfOk result (λ after. after.items ≡ moved_places places.now before.now) }
 {
@@ -83,6 +117,28 @@ fn moved(alloc: Global, places: &[Option<u16>], before: &[u16]) -> Result<Vec<u1
         add(&mut after, places[*place as usize])?;
     }
     Ok(after)
+}
+
+// Returns these new places in rising order.
+fn moved(alloc: Global, places: &[Option<u16>], before: &[u16]) -> Result<Vec<u16>, AllocError>
+    requires { All (λ place. place < length places.now) before.now }
+    ensures { IfOk result (λ after. IsPermutation (moved_places places.now before.now) after.items) }
+{
+    let mut after = places_after(alloc, places, before)?;
+    after.sort_unstable();
+    Ok(after)
+}
+
+// Returns a row that stays.
+fn moved_row(alloc: Global, places: &[Option<u16>], row: &LiveRow) -> Result<LiveRow, AllocError>
+    requires { All (λ place. place < length places.now) row.now.before.items }
+    ensures { IfOk result (λ after. IsMoved places.now (plain row.now) (plain after)) }
+{
+    Ok(LiveRow {
+        wishes: row.wishes,
+        before: moved(alloc, places, &row.before)?,
+        claims: Vec::from_slice(alloc, &row.claims)?,
+    })
 }
 
 // Returns the rows at the places that are kept.
@@ -94,16 +150,12 @@ fn moved_rows(
 ) -> Result<Vec<LiveRow>, AllocError>
     requires low { AreLow (length places.now) (plains live.now) }
     requires there { All (λ place. place < length live.now) kept.now }
-    ensures { IfOk result (λ rows. plains rows.items ≡ rows_moved places.now kept.now (plains live.now)) }
+    ensures { IfOk result (λ rows. AreMoved places.now kept.now (plains live.now) (plains rows.items)) }
 {
     let mut rows = Vec::new(alloc);
     for place in kept {
-        let row = &live[*place as usize];
-        rows.push(LiveRow {
-            wishes: row.wishes,
-            before: moved(alloc, places, &row.before)?,
-            claims: Vec::from_slice(alloc, &row.claims)?,
-        })?;
+        let row = moved_row(alloc, places, &live[*place as usize])?;
+        rows.push(row)?;
     }
     Ok(rows)
 }
@@ -115,7 +167,7 @@ pub struct Arranged {
     pub kept: Vec<u16>,
 }
 
-/// Returns a front without the rows that have no wish. The others stay in their order.
+/// Returns a front without the rows that have no wish. The others are sorted, so that fronts that differ only in the order of their rows are mostly equal.
 pub fn without_done(alloc: Global, lists: &WishLists, front: Front) -> Result<Arranged, AllocError>
     requires few { length front.live.items < 2 ^ 16 }
     requires there { AreIn lists.now (plains front.live.items) }
@@ -126,8 +178,8 @@ pub fn without_done(alloc: Global, lists: &WishLists, front: Front) -> Result<Ar
 {
     let Front { values, live } = front;
     let done = done(alloc, lists, &live)?;
-    let places = places(alloc, &done)?;
-    let kept = kept(alloc, &done)?;
+    let kept = kept(alloc, &done, &live)?;
+    let places = places(alloc, &done, &kept)?;
     let live = moved_rows(alloc, &places, &kept, &live)?;
     Ok(Arranged {
         front: Front { values, live },

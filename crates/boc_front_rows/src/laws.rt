@@ -1,11 +1,11 @@
 // Laws of live rows.
 
-ghost use Rattle.std.specs.Prelude.{◌≡◌, ◌<◌, ◌≤◌, ℕ, List, length};
+ghost use Rattle.std.specs.Prelude.{◌≡◌, ◌<◌, ℕ, List, length, IsPermutation};
 ghost use Rattle.boc_runs.specs.Serial.{Behaviour};
 ghost use Rattle.boc_fronts.specs.Steps.{IsArranged};
 ghost use Rattle.boc_front_rows.specs.declared.row.Front.{Front};
 ghost use Rattle.boc_front_rows.specs.Claims.{AreSpawned, rows_after};
-ghost use Rattle.boc_front_rows.specs.Orders.{done_of, kept_from, places_from, rows_moved};
+ghost use Rattle.boc_front_rows.specs.Orders.{AreMoved, done_of, kept_from, places_of};
 ghost use Rattle.boc_front_rows.specs.Rows.{Plain, plains, AreIn};
 ghost use Rattle.boc_front_rows.specs.Seen.{front_of};
 
@@ -16,14 +16,14 @@ pub fn rows_are_spawned()
         → AreSpawned cowns place rest wishes rows (rows_after cowns place rest wishes rows) }
 {}
 
-/// Proves that a front without the rows that have no wish is the front arranged.
+/// Proves that a front without the rows that have no wish is the front arranged, for each order of the others.
 pub fn kept_rows_are_arranged()
-    ensures arranged { (lists : List (List Behaviour)) (front after : Front) → after.values.items ≡ front.values.items
-        → plains after.live.items ≡ rows_moved (places_from 0 (done_of lists (plains front.live.items)))
-        (kept_from 0 (done_of lists (plains front.live.items))) (plains front.live.items)
-        → IsArranged (front_of lists front) (kept_from 0 (done_of lists (plains front.live.items))) (front_of lists after) }
-    ensures there { (lists : List (List Behaviour)) (front after : Front) → after.values.items ≡ front.values.items
-        → plains after.live.items ≡ rows_moved (places_from 0 (done_of lists (plains front.live.items)))
-        (kept_from 0 (done_of lists (plains front.live.items))) (plains front.live.items)
+    ensures arranged { (lists : List (List Behaviour)) (front after : Front) (kept : List ℕ) → after.values.items ≡ front.values.items
+        → IsPermutation (kept_from 0 (done_of lists (plains front.live.items))) kept
+        → AreMoved (places_of (length (plains front.live.items)) kept) kept (plains front.live.items) (plains after.live.items)
+        → IsArranged (front_of lists front) kept (front_of lists after) }
+    ensures there { (lists : List (List Behaviour)) (front after : Front) (kept : List ℕ) → after.values.items ≡ front.values.items
+        → IsPermutation (kept_from 0 (done_of lists (plains front.live.items))) kept
+        → AreMoved (places_of (length (plains front.live.items)) kept) kept (plains front.live.items) (plains after.live.items)
         → AreIn lists (plains front.live.items) → AreIn lists (plains after.live.items) }
 {}

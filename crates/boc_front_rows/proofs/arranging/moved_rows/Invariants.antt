@@ -1,8 +1,8 @@
-use Rattle.std.proofs.Common.{◌≡◌, ◌++◌, drop}
-use Rattle.boc_front_rows.specs.Orders.{rows_moved}
+use Rattle.std.proofs.Common.{take}
+use Rattle.boc_front_rows.specs.Orders.{AreMoved}
 use Rattle.boc_front_rows.specs.Rows.{plains}
 use Rattle.boc_front_rows.proofs.arranging.moved_rows.Given as goal
 
+-- the rows at the places so far
 abbrev pub invariant-loop-place : goal.invariant-loop-place
-invariant-loop-place l =
-    plains l.rows.items ++ rows_moved l.places (drop l.place-index l.kept) (plains l.live) ≡ rows_moved l.places l.kept (plains l.live)
+invariant-loop-place l = AreMoved l.places (take l.place-index l.kept) (plains l.live) (plains l.rows.items)

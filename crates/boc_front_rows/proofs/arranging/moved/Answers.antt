@@ -1,0 +1,6 @@
+use Rattle.std.proofs.Common.{ℕ, List, subst}
+use Rattle.std.specs.Prelude.{IsPermutation}
+use Rattle.boc_front_rows.proofs.arranging.moved.Goals as goal
+
+pub returns : goal.returns
+returns c = subst (λ (xs : List ℕ). IsPermutation xs c.sort_unstable.new.self.items) c.in_ok-after.ensures c.sort_unstable.ensures.permutation

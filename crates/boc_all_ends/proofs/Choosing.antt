@@ -9,10 +9,11 @@ use Rattle.boc_runs.specs.Serial.{Behaviour}
 use Rattle.boc_eval.specs.Queue.{QueueFits}
 use Rattle.boc_fronts.specs.Fronts as fronts
 use Rattle.boc_runs.specs.machine.Queues.{times}
-use Rattle.boc_footprints.specs.Footprints.{IsFootprint, TakesAll}
-use Rattle.boc_footprints.specs.Tables.{reaches}
+use Rattle.boc_footprints.specs.Footprints.{TakesAll}
+use Rattle.boc_sharp_footprints.specs.Footprints.{IsFootprintByArgs, ReachedBy}
+use Rattle.boc_sharp_footprints.specs.Tables.{reaches_by}
 use Rattle.boc_footprints.proofs.Truths.{or_true, or_left, or_right}
-use Rattle.boc_choices.specs.Chosen.{AreChosen, Reached, WishesTakeAll}
+use Rattle.boc_choices.specs.Chosen.{AreChosen, WishesTakeAll}
 use Rattle.boc_choices.specs.Holding.{Table}
 use Rattle.boc_choices.proofs.Closed.{chosen_are_enough}
 use Rattle.boc_front_rows.specs.declared.row.Front.{Front}
@@ -37,22 +38,22 @@ is_some : (n : ℕ) → 0 < n → IsTrue (nat_lt 0 n)
 is_some n h = grind (arith, nat_tests)
 
 -- a footprint by a table makes the table one of the program, and the other way round
-pub table_of : (p : Program) (table : Table) → IsFootprint p (Reached table) → IsTableOf p table
+pub table_of : (p : Program) (table : Table) → IsFootprintByArgs p (ReachedBy table) → IsTableOf p table
 table_of p table f = (
   λ b values w takes at c has. elim (f.cowns b values w takes at c has) [
-    | inl own ↦ or_left (nat_lt 0 (times c b.cowns)) (reaches table b.kind c) (is_some (times c b.cowns) own)
-    | inr reached ↦ or_right (nat_lt 0 (times c b.cowns)) (reaches table b.kind c) reached
+    | inl own ↦ or_left (nat_lt 0 (times c b.cowns)) (reaches_by table b.kind b.args c) (is_some (times c b.cowns) own)
+    | inr reached ↦ or_right (nat_lt 0 (times c b.cowns)) (reaches_by table b.kind b.args c) reached
   ],
-  f.kinds,
+  f.wishes,
 )
 
-footprint_of : (p : Program) (table : Table) → IsTableOf p table → IsFootprint p (Reached table)
+footprint_of : (p : Program) (table : Table) → IsTableOf p table → IsFootprintByArgs p (ReachedBy table)
 footprint_of p table t = record {
-  cowns = λ b values w takes at c has. elim (or_true (nat_lt 0 (times c b.cowns)) (reaches table b.kind c) (t.0 b values w takes at c has)) [
+  cowns = λ b values w takes at c has. elim (or_true (nat_lt 0 (times c b.cowns)) (reaches_by table b.kind b.args c) (t.0 b values w takes at c has)) [
     | inl own ↦ inl (some_times (times c b.cowns) own)
     | inr reached ↦ inr reached
   ];
-  kinds = t.1;
+  wishes = t.1;
 }
 
 -- each behaviour of a queue that fits takes all

@@ -18,11 +18,11 @@ use crate::running::run_at_once;
 use crate::turn::Turn;
 use boc_choices::chosen_places;
 use boc_eval::{Spare, SpawnWish};
-use boc_footprints::{Footprints, footprints_of};
 use boc_front_rows::{Arranged, Front, LiveRow, WishLists, Wished, spawned, without_done};
 use boc_program::short::{Args, Cowns};
 use boc_registers::compiled::CompiledProgram;
 use boc_runs::values::initial_values;
+use boc_sharp_footprints::{SharpFootprints, sharp_footprints_of};
 use std::alloc::{AllocError, Global};
 
 /// What makes the steps of a program's fronts.
@@ -30,7 +30,7 @@ use std::alloc::{AllocError, Global};
 pub struct Stepper<'a> {
     pub program: &'a CompiledProgram<'a>,
     pub lists: WishLists,
-    footprints: Footprints,
+    footprints: SharpFootprints,
     spare: Spare<'a>,
     ghost footprint: { IsTableOf program.now footprints },
 }
@@ -75,7 +75,7 @@ impl<'a> Stepper<'a> {
         ensures program { IfOk result (λ s. s.program.now ≡ program.now) }
         ensures lists { IfOk result (λ s. s.lists ≡ [] ∷ []) }
     {
-        let footprints = footprints_of(alloc, program.program())?;
+        let footprints = sharp_footprints_of(alloc, program.program())?;
         Ok(Stepper {
             program,
             lists: WishLists::new(alloc),

@@ -9,12 +9,11 @@ use Rattle.boc_runs.specs.Serial.{Behaviour}
 use Rattle.boc_runs.specs.machine.Queues.{times}
 use Rattle.boc_front_rows.specs.Lists.{list_at}
 use Rattle.boc_front_rows.specs.Rows.{Plain}
-use Rattle.boc_closed_sets.specs.Footprints.{IsInFootprint}
 use Rattle.boc_footprints.specs.Spreading.{is_marked}
-use Rattle.boc_footprints.specs.Tables.{reaches}
+use Rattle.boc_sharp_footprints.specs.Tables.{reaches_by}
 use Rattle.boc_footprints.proofs.Truths.{or_true, or_left, or_right}
 use Rattle.boc_footprints.proofs.Listed.{times_first_or_later}
-use Rattle.boc_choices.specs.Chosen.{Reached}
+use Rattle.boc_choices.specs.Chosen.{IsReached}
 use Rattle.boc_choices.specs.Holding.{Table, has_cown, meets, are_apart, may_stand, all_may_stand}
 
 never : (b : Bool) → b ≡ false → IsTrue b → ⊥
@@ -55,16 +54,16 @@ own_cown (d ∷ cs) c h = elim (times_first_or_later c d cs h) [
   | inr later ↦ or_right (nat_eq d c) (list_any (λ d. nat_eq d c) cs) (own_cown cs c later)
 ]
 
-in_footprint : (table : Table) (far : Behaviour) (c : ℕ) → IsInFootprint (Reached table) far c → IsTrue (has_cown table far c)
-in_footprint table far c (inl own) = or_left (list_any (λ d. nat_eq d c) far.cowns) (reaches table far.kind c) (own_cown far.cowns c own)
-in_footprint table far c (inr reached) = or_right (list_any (λ d. nat_eq d c) far.cowns) (reaches table far.kind c) reached
+in_footprint : (table : Table) (far : Behaviour) (c : ℕ) → IsReached table far c → IsTrue (has_cown table far c)
+in_footprint table far c (inl own) = or_left (list_any (λ d. nat_eq d c) far.cowns) (reaches_by table far.kind far.args c) (own_cown far.cowns c own)
+in_footprint table far c (inr reached) = or_right (list_any (λ d. nat_eq d c) far.cowns) (reaches_by table far.kind far.args c) reached
 
 or_false : (a b : Bool) → (a || b) ≡ false → (a ≡ false) × (b ≡ false)
 or_false true b h = absurd cc
 or_false false b h = (refl, h)
 
 pub meets_none : (table : Table) (cowns : List ℕ) (wishes : List Behaviour) (far : Behaviour) (c : ℕ) → meets table cowns wishes ≡ false
-    → Contains wishes far → 0 < times c cowns → IsInFootprint (Reached table) far c → ⊥
+    → Contains wishes far → 0 < times c cowns → IsReached table far c → ⊥
 meets_none table cowns [] far c h among some foot = none_in_none far among
 meets_none table cowns (first ∷ wishes) far c h among some foot =
     let both = or_false (list_any (has_cown table first) cowns) (meets table cowns wishes) h in

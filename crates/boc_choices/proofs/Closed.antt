@@ -9,9 +9,9 @@ use Rattle.boc_program.proofs.RisingNumbers.{has_first, none_in_none}
 use Rattle.boc_runs.specs.Serial.{Behaviour}
 use Rattle.boc_runs.specs.machine.Queues.{times}
 use Rattle.boc_fronts.specs.Fronts as fronts
-use Rattle.boc_closed_sets.specs.Closed.{IsClosedFor, IsClosedSet}
+use Rattle.boc_closed_sets.specs.Closed.{IsClosedFor}
 use Rattle.boc_closed_sets.specs.Enough.{AreFreeOf, AreAllFree, IsEnough}
-use Rattle.boc_closed_sets.specs.Footprints.{AreFootprints, IsInFootprint}
+use Rattle.boc_closed_sets.specs.Footprints.{AreFootprints}
 use Rattle.boc_closed_sets.proofs.Sufficing.{closed_are_enough, free_places_are_enough}
 use Rattle.boc_front_rows.specs.declared.row.Front.{Front}
 use Rattle.boc_front_rows.specs.declared.row.LiveRow.{LiveRow}
@@ -19,11 +19,11 @@ use Rattle.boc_front_rows.specs.Lists.{list_at}
 use Rattle.boc_front_rows.specs.Rows.{Plain, plain, plains, AreLow}
 use Rattle.boc_front_rows.specs.Seen.{front_of, shown}
 use Rattle.boc_front_rows.proofs.Mapped.{at_mapped, mapped_at}
-use Rattle.boc_footprints.specs.Footprints.{IsFootprint, InFootprint}
+use Rattle.boc_sharp_footprints.specs.Footprints.{IsFootprintByArgs, InFootprintByArgs, ReachedBy}
 use Rattle.boc_footprints.specs.Spreading.{is_marked}
-use Rattle.boc_footprints.proofs.Footing.{holds_wishes}
+use Rattle.boc_sharp_footprints.proofs.Footing.{holds_wishes}
 use Rattle.boc_footprints.proofs.Truths.{true_or_false}
-use Rattle.boc_choices.specs.Chosen.{Reached, AreChosen, WishesTakeAll}
+use Rattle.boc_choices.specs.Chosen.{IsReached, AreChosen, WishesTakeAll}
 use Rattle.boc_choices.specs.Holding.{Table, is_free, first_cowns, meets, are_apart, may_stand, all_may_stand, free_marked}
 use Rattle.boc_choices.proofs.Marked.{inside, marked_inside, inside_marked, free_marked_is, is_free_marked}
 use Rattle.boc_choices.proofs.Apart.{one_of, apart_at, stands_at, meets_none}
@@ -143,7 +143,7 @@ module _ (table : Table) (lists : Lists) (f : Front) (marks : List Bool) (low : 
   apart : (i j c : ℕ) (row other : fronts.LiveRow) (wish far : Behaviour) (rest : List Behaviour) → Contains (inside marks) i
       → fronts.IsFree (front_of lists f) i → slice_get (front_of lists f).live i ≡ Some row → row.wishes ≡ wish ∷ rest
       → (Contains (inside marks) j → ⊥) → slice_get (front_of lists f).live j ≡ Some other → Contains other.wishes far
-      → 0 < times c wish.cowns → IsInFootprint (Reached table) far c → ⊥
+      → 0 < times c wish.cowns → IsReached table far c → ⊥
   apart i j c row other wish far rest among free is first out is_other has some foot =
       let r = row_at lists f i row is in
       let s = row_at lists f j other is_other in
@@ -165,7 +165,7 @@ module _ (table : Table) (lists : Lists) (f : Front) (marks : List Bool) (low : 
             inr (one.0, inside_marked marks one.0 one.2, subst (λ (l : fronts.LiveRow). Contains l.before one.0) r.2 one.1)
       ]
 
-  pub closed : (i : ℕ) → Contains (free_marked marks 0 rows) i → IsClosedSet (Reached table) (front_of lists f) (inside marks)
+  pub closed : (i : ℕ) → Contains (free_marked marks 0 rows) i → IsClosedFor (IsReached table) (front_of lists f) (inside marks)
   closed i among = record {
     some = (let both = (are_free_of lists f marks low i).0 among in (i, both.0, both.1));
     apart = apart;
@@ -174,21 +174,21 @@ module _ (table : Table) (lists : Lists) (f : Front) (marks : List Bool) (low : 
 
 -- ---- enough
 
-pub chosen_are_enough : (p : Program) (table : Table) (f : fronts.Front) (places : List ℕ) → IsFootprint p (Reached table) → WishesTakeAll p f
+pub chosen_are_enough : (p : Program) (table : Table) (f : fronts.Front) (places : List ℕ) → IsFootprintByArgs p (ReachedBy table) → WishesTakeAll p f
     → f.live ≢ [] → AreChosen table f places → IsEnough p f places
 chosen_are_enough p table f places foot takes live (inl chosen) =
-    let footprints : AreFootprints p (InFootprint p (Reached table)) = record {
+    let footprints : AreFootprints p (InFootprintByArgs p (ReachedBy table)) = record {
       own = λ b c h takes. inl h;
-      wishes = holds_wishes p (Reached table) foot;
+      wishes = holds_wishes p (ReachedBy table) foot;
     } in
     let set = chosen.1 in
-    let closed : IsClosedFor (InFootprint p (Reached table)) f chosen.0 = record {
+    let closed : IsClosedFor (InFootprintByArgs p (ReachedBy table)) f chosen.0 = record {
       some = set.some;
       apart = λ i j c row other wish far rest among free is first out is_other has some foot.
           set.apart i j c row other wish far rest among free is first out is_other has some (foot (takes j other far is_other has));
       behind = set.behind;
     } in
-    closed_are_enough p (InFootprint p (Reached table)) f chosen.0 places footprints closed chosen.2
+    closed_are_enough p (InFootprintByArgs p (ReachedBy table)) f chosen.0 places footprints closed chosen.2
 chosen_are_enough p table f places foot takes live (inr all) = free_places_are_enough p f places live all
 
 -- ---- as the code has it

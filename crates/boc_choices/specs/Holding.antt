@@ -5,15 +5,15 @@ use Rattle.boc_runs.specs.Serial.{Behaviour}
 use Rattle.boc_front_rows.specs.Lists.{list_at}
 use Rattle.boc_front_rows.specs.Rows.{Plain}
 use Rattle.boc_footprints.specs.Spreading.{is_marked}
-use Rattle.boc_footprints.specs.Tables.{reaches}
+use Rattle.boc_sharp_footprints.specs.Tables.{Sharp, reaches_by}
 
--- which kinds reach which cowns
+-- which kinds reach which cowns, by their arguments
 abbrev pub Table : Type 0
-Table = List (List Bool)
+Table = Sharp
 
--- a cown of a behaviour, or one that its kind reaches
+-- a cown of a behaviour, or one that it reaches
 abbrev pub has_cown : Table → Behaviour → ℕ → Bool
-has_cown table far c = list_any (λ d. nat_eq d c) far.cowns || reaches table far.kind c
+has_cown table far c = list_any (λ d. nat_eq d c) far.cowns || reaches_by table far.kind far.args c
 
 -- one of these cowns is in the footprint of one of these behaviours
 abbrev pub meets : Table → List ℕ → List Behaviour → Bool

@@ -9,8 +9,8 @@ ghost use Rattle.boc_choices.specs.Holding.{free_marked as free_marked_spec};
 
 use crate::holding::{all_may_stand, has};
 use crate::least::least;
-use boc_footprints::Footprints;
 use boc_front_rows::{Front, LiveRow, WishLists};
+use boc_sharp_footprints::SharpFootprints;
 use std::alloc::{AllocError, Global};
 
 // Adds a place, if it is one of those.
@@ -59,7 +59,7 @@ fn all_free(alloc: Global, lists: &WishLists, front: &Front) -> Result<Vec<u16>,
 /// Returns the places of a front at which a search may make its steps: the free ones of a set of live rows that is closed by the table, or all the free ones.
 pub fn chosen_places(
     alloc: Global,
-    table: &Footprints,
+    table: &SharpFootprints,
     lists: &WishLists,
     front: &Front,
 ) -> Result<Vec<u16>, AllocError>

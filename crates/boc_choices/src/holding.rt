@@ -14,9 +14,9 @@ ghost use Rattle.boc_choices.specs.Holding.{
   meets as meets_spec,
 };
 
-use boc_footprints::Footprints;
 use boc_front_rows::{LiveRow, WishLists, Wished};
 use boc_program::short::CownNo;
+use boc_sharp_footprints::SharpFootprints;
 
 /// Returns whether a place is marked.
 pub(crate) fn has(marks: &[bool], place: usize) -> bool
@@ -25,12 +25,19 @@ pub(crate) fn has(marks: &[bool], place: usize) -> bool
     marks.get(place).copied().unwrap_or(false)
 }
 
+// Returns whether a cown is in the footprint of a behaviour.
+fn reaches_cown(table: &SharpFootprints, far: &Wished, cown: CownNo) -> bool
+    ensures { result ≡ has_cown table.now (wished far.now) cown }
+{
+    far.cowns.contains(&cown) || table.reaches(far.kind, &far.args, cown)
+}
+
 // Returns whether one of these cowns is in the footprint of a behaviour.
-fn meets_one(table: &Footprints, cowns: &[CownNo], far: &Wished) -> bool
+fn meets_one(table: &SharpFootprints, cowns: &[CownNo], far: &Wished) -> bool
     ensures { result ≡ list_any (has_cown table.now (wished far.now)) cowns.now }
 {
     for cown in cowns {
-        if far.cowns.contains(cown) || table.reaches(far.kind, *cown) {
+        if reaches_cown(table, far, *cown) {
             return true;
         }
     }
@@ -38,7 +45,12 @@ fn meets_one(table: &Footprints, cowns: &[CownNo], far: &Wished) -> bool
 }
 
 /// Returns whether one of these cowns is in the footprint of a behaviour of a list.
-pub(crate) fn meets(table: &Footprints, lists: &WishLists, cowns: &[CownNo], list: usize) -> bool
+pub(crate) fn meets(
+    table: &SharpFootprints,
+    lists: &WishLists,
+    cowns: &[CownNo],
+    list: usize,
+) -> bool
     requires { list < length lists.now }
     ensures { result ≡ meets_spec table.now cowns.now (list_at lists.now list) }
 {
@@ -65,7 +77,7 @@ pub(crate) fn first_cowns(lists: &WishLists, list: usize) -> &[CownNo]
 
 // Returns whether the rows at places without a mark have no wish whose footprint has one of these cowns.
 fn are_apart(
-    table: &Footprints,
+    table: &SharpFootprints,
     lists: &WishLists,
     live: &[LiveRow],
     marks: &[bool],
@@ -96,7 +108,7 @@ fn has_one(marks: &[bool], places: &[u16]) -> bool
 
 // Returns whether the place of a row may be marked.
 fn may_stand(
-    table: &Footprints,
+    table: &SharpFootprints,
     lists: &WishLists,
     live: &[LiveRow],
     marks: &[bool],
@@ -115,7 +127,7 @@ fn may_stand(
 
 /// Returns whether the place of each row at a marked place may be marked.
 pub(crate) fn all_may_stand(
-    table: &Footprints,
+    table: &SharpFootprints,
     lists: &WishLists,
     live: &[LiveRow],
     marks: &[bool],

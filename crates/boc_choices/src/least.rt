@@ -3,9 +3,9 @@
 ghost use Rattle.boc_front_rows.specs.Rows.{AreIn, plains};
 
 use crate::holding::{first_cowns, has, meets};
-use boc_footprints::Footprints;
 use boc_front_rows::{LiveRow, WishLists};
 use boc_program::short::CownNo;
+use boc_sharp_footprints::SharpFootprints;
 use std::alloc::{AllocError, Global};
 
 // A set of places that is made closed: its marks, the marked places not yet looked at, how many free rows were found in it, and whether one of
@@ -34,7 +34,7 @@ fn mark(set: &mut Growing, place: usize) -> Result<(), AllocError> {
 // Marks the rows that have a wish whose footprint has one of these cowns.
 fn mark_meeting(
     set: &mut Growing,
-    table: &Footprints,
+    table: &SharpFootprints,
     lists: &WishLists,
     live: &[LiveRow],
     cowns: &[CownNo],
@@ -65,7 +65,7 @@ fn mark_before(set: &mut Growing, before: &[u16]) -> Result<(), AllocError> {
 // Marks what has to be in a set with the row at a place.
 fn look_at(
     set: &mut Growing,
-    table: &Footprints,
+    table: &SharpFootprints,
     lists: &WishLists,
     live: &[LiveRow],
     start: usize,
@@ -102,7 +102,7 @@ fn alone(alloc: Global, many: usize, start: usize) -> Result<Growing, AllocError
 // one of them is before the place: the set that began there is no greater.
 fn closed_with(
     alloc: Global,
-    table: &Footprints,
+    table: &SharpFootprints,
     lists: &WishLists,
     live: &[LiveRow],
     start: usize,
@@ -126,7 +126,7 @@ fn closed_with(
 /// Returns marks of a closed set: of those with a free row and what that needs, one with the fewest free rows.
 pub(crate) fn least(
     alloc: Global,
-    table: &Footprints,
+    table: &SharpFootprints,
     lists: &WishLists,
     live: &[LiveRow],
 ) -> Result<Vec<bool>, AllocError>

@@ -9,7 +9,7 @@ wish kind cowns = record { kind = kind; args = []; cowns = cowns }
 
 -- kind 2 reaches cown 1, and no other kind reaches a cown
 abbrev table : Table
-table = (false ∷ false ∷ false ∷ []) ∷ (false ∷ false ∷ true ∷ []) ∷ []
+table = record { by_kind = (false ∷ false ∷ false ∷ []) ∷ (false ∷ false ∷ true ∷ []) ∷ []; by_value = [] }
 
 -- list 1 asks for kind 1 over cown 0, list 2 for kind 1 over cown 2 and then kind 2 over cown 3, list 3 for kind 1 over cown 1
 abbrev lists : List (List Behaviour)

@@ -1,0 +1,10 @@
+pub mod Split
+pub mod Marking
+pub mod SoFar
+pub mod Forgetting
+pub mod Valued
+pub mod Sound
+pub mod Asked
+pub mod Footing
+pub mod Made
+pub mod examples

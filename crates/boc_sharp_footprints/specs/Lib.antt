@@ -1,0 +1,4 @@
+pub mod Known
+pub mod Followed
+pub mod Tables
+pub mod Footprints

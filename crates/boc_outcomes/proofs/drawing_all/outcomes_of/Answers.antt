@@ -12,8 +12,8 @@ pub loop-done-preserved : goal.loop-done-preserved
 loop-done-preserved g c =
     let asked = c.args.asked.now in
     let all : List Sampled = c.in_ok-all.all.items in
-    round_drawn c.args.program.now asked c.loop-done.done c.min-next.result all c.loop-done.tally c.add_all.new.self c.loop-done.invariant c.in_ok-all.ensures
-    (omega (arith, c.min-next.ensures))
+    round_drawn c.args.program.now asked c.loop-done.done c.round_end-next.result all c.loop-done.tally c.add_all.new.self c.loop-done.invariant c.in_ok-all.ensures
+    (omega (arith, c.round_end-next.ensures.after))
     (λ xs long was. subst (λ (l : List Sampled). Tallies asked.seed (xs ++ map sample_of l) c.add_all.new.self) c.deref.ensures.value
     (c.in_ok-add_all.ensures xs long was))
 

@@ -41,6 +41,10 @@ EXAMPLES = {"race.boc": 2, "two_orders.boc": 2, "commute.boc": 1, "transfer.boc"
 # As many orders as there are behaviours in a row, each with an end of its own.
 THREE = FEW["a race of three"][0]
 
+# What stands below an end that is not there: of a search that stopped, and of one that cut runs off.
+STOPPED = "\n     the search stopped: a greater --most looks farther"
+CUT_OFF = "\n     runs that need more than 65,535 rows have no end"
+
 # A behaviour that spawns itself for ever; one that does so until another one, which may come at any time, says to stop; and both of two kinds.
 FOR_EVER = b"cown a = 0; def f(; x) { x = 1; when f(; a); } main { when f(; a); }"
 UNTIL_STOPPED = b"""cown stop = 0; cown own = 0;
@@ -165,6 +169,7 @@ def cases(program):
     yield "faults among spawns", fault_of_all(program, FAULTY, RulesWalk(Program(FAULTY), 10 ** 5).ends())
     yield "no cowns", fault_of(done(b"all yes\nfronts 1\nrows 1 1\nend 1 rows 1 1\n"), program.run(["outcomes", "--all"], b"main { }"))
     yield "a run that never ends", fault_of_endless(program)
+    yield "no end in a search that stopped", fault_of_no_end(program, FIVE, 0, STOPPED, ["--most", "1"])
     yield "a run that may never end", fault_of_stopped(program)
     yield from worked(program)
     yield from refusals(program)
@@ -206,11 +211,11 @@ def fault_of_record(program, text, number, rows, values):
     return fault_of(done(b"ok %d\n" % rows), checked) or fault_of(done(values), program.run_beside(["values", "--quiet"], "--record", record.output, text))
 
 
-def fault_of_no_end(program, text, count):
-    """There is no end behind the last one."""
+def fault_of_no_end(program, text, count, missed="", most=()):
+    """There is no end behind the last one; below that stands what the search did not look at."""
     number = count + 1
-    answer = program.run(["outcomes", "--all", "--end", str(number)], text)
-    return fault_of(refused(4, f"boc: end {number}: 1 NoEnd\n     ends found: {count}"), answer)
+    answer = program.run(["outcomes", "--all", "--end", str(number), *most], text)
+    return fault_of(refused(4, f"boc: end {number}: 1 NoEnd\n     ends found: {count}{missed}"), answer)
 
 
 def fault_of_limit(program, text, ends, most):
@@ -274,7 +279,7 @@ def fault_of_count(program, text, count):
 def fault_of_endless(program):
     """No end, which is an answer too."""
     answer = program.run(["outcomes", "--all"], FOR_EVER)
-    return fault_of(done(b"all yes\nfronts %d\nendless\n" % fronts_in(answer)), answer) or fault_of_no_end(program, FOR_EVER, 0)
+    return fault_of(done(b"all yes\nfronts %d\nendless\n" % fronts_in(answer)), answer) or fault_of_no_end(program, FOR_EVER, 0, CUT_OFF)
 
 
 def fault_of_stopped(program):

@@ -48,8 +48,9 @@ end_run most number text p found e r spells ends at is = record {
 
 -- fewer ends
 pub fewer_ends : (most number : ℕ) (text : List ℕ) (p : Program) (found : Found) (fault : EndFault) → Spells text p → IsFound p most found → 0 < number
-    → length found.all.items ≤ number - 1 → fault.number ≡ number → fault.found ≡ length found.all.items → HasFewerEnds most number text fault
-fewer_ends most number text p found fault spells ends some few number_is found_is = record {
+    → length found.all.items ≤ number - 1 → fault.number ≡ number → fault.found ≡ length found.all.items → fault.whole ≡ found.whole
+    → fault.endless ≡ found.endless → HasFewerEnds most number text fault
+fewer_ends most number text p found fault spells ends some few number_is found_is whole_is endless_is = record {
   program = p;
   spells = spells;
   found = found;
@@ -57,6 +58,8 @@ fewer_ends most number text p found fault spells ends some few number_is found_i
   fewer = omega (arith, some, few);
   number_is = number_is;
   found_is = found_is;
+  whole_is = whole_is;
+  endless_is = endless_is;
 }
 
 -- a run to an end is refused for the text that was taken

@@ -39,7 +39,8 @@ pub record IsEndRunAnswer (most number : ℕ) (input output : List ℕ) : Type 0
   pub run : IsEndRunOfText most number input recorded
   pub text : output ≡ record_text Second recorded.cowns recorded.events
 
--- the text spells a program of which a search of all ends finds fewer than this number: the fault tells both
+-- The text spells a program of which a search of all ends finds fewer than this number: the fault tells both, whether the search was whole, and whether some
+-- run needs more rows than there may be.
 pub record HasFewerEnds (most number : ℕ) (text : List ℕ) (fault : EndFault) : Type 0 where
   pub program : Program
   pub spells : Spells text program
@@ -48,6 +49,8 @@ pub record HasFewerEnds (most number : ℕ) (text : List ℕ) (fault : EndFault)
   pub fewer : length found.all.items < number
   pub number_is : fault.number ≡ number
   pub found_is : fault.found ≡ length found.all.items
+  pub whole_is : fault.whole ≡ found.whole
+  pub endless_is : fault.endless ≡ found.endless
 
 -- a fault of a run to an end: what is wrong with the program text and where, or that there are fewer ends; no device failed
 abbrev pub IsOfEndRun : ℕ → ℕ → List ℕ → Fault → Type 0

@@ -61,8 +61,12 @@ fn end_run(
     let found = all_ends(alloc, &compiled, most.number(), progress)?;
     let number = number.number();
     let Some(end) = found.all.get(number as usize - 1) else {
-        let found = found.all.len();
-        return Err(Fault::End(EndFault { number, found }));
+        return Err(Fault::End(EndFault {
+            number,
+            found: found.all.len(),
+            whole: found.whole,
+            endless: found.endless,
+        }));
     };
     let run = record_to(alloc, &compiled, end)?;
     Ok(run)

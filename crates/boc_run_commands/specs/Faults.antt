@@ -1,5 +1,5 @@
 -- What faults say.
-use Rattle.std.specs.Prelude.{◌≡◌, ℕ, Bool, true, false, List, ◌++◌, Option, Some, None, codes, decimal}
+use Rattle.std.specs.Prelude.{◌≡◌, ℕ, Bool, true, false, List, [], ◌++◌, Option, Some, None, codes, decimal}
 use Rattle.boc_run_commands.specs.declared.fault.Fault.{Fault}
 use Rattle.boc_run_commands.specs.declared.fault.Fault.TheVariants as faults
 use Rattle.boc_run_commands.specs.declared.fault.InputFault.{InputFault}
@@ -216,9 +216,15 @@ window_line (windows.Stream s) = numbered (codes "boc: line ") s.line (stream_ki
 window_line (windows.Names l) = numbered (codes "boc: names: line ") l.line (label_kind_line l.kind)
 window_line windows.Unmade = codes "boc: window: 1 Unmade"
 
--- the two lines of an end that there is not: its number, and how many were found
+-- the line that says what a search did not look at: whether it was whole, and whether some run needs more rows than there may be
+abbrev pub missed_line : Bool → Bool → List ℕ
+missed_line false endless = codes "\n     the search stopped: a greater --most looks farther"
+missed_line true true = codes "\n     runs that need more than 65,535 rows have no end"
+missed_line true false = []
+
+-- the lines of an end that there is not: its number, how many were found, and what the search did not look at
 abbrev pub end_line : EndFault → List ℕ
-end_line e = codes "boc: end " ++ decimal e.number ++ codes ": 1 NoEnd\n     ends found: " ++ decimal e.found
+end_line e = codes "boc: end " ++ decimal e.number ++ codes ": 1 NoEnd\n     ends found: " ++ decimal e.found ++ missed_line e.whole e.endless
 
 -- the line of what was wanting
 abbrev pub want_line : Want → List ℕ

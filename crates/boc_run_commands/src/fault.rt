@@ -4,7 +4,7 @@ ghost use Rattle.std.specs.Prelude.{◌≡◌, ◌+◌, ◌≤◌, ◌++◌, IfO
 ghost use Rattle.std.specs.Option.{option_map};
 ghost use Rattle.boc_text.specs.declared.decimal.TheConstants.{MOST_DIGITS};
 ghost use Rattle.boc_run_commands.specs.declared.fault.TheConstants.{MOST_FAULT_LINE};
-ghost use Rattle.boc_run_commands.specs.Faults.{edit_line, end_line, file_line, input_line, run_line, want_line, window_line};
+ghost use Rattle.boc_run_commands.specs.Faults.{edit_line, end_line, file_line, input_line, missed_line, run_line, want_line, window_line};
 
 use arrayvec::ArrayString;
 use boc_draws::DrawFault;
@@ -103,6 +103,10 @@ pub struct EndFault {
     pub number: u32,
     /// How many ends were found.
     pub found: usize,
+    /// Whether the search was whole. Otherwise it stopped at its limit.
+    pub whole: bool,
+    /// Whether some run needs more rows than there may be. Meant only of a whole search.
+    pub endless: bool,
 }
 
 /// What was wanting.
@@ -211,7 +215,7 @@ fn window_text(fault: &WindowFault) -> Line
     }
 }
 
-// Returns the two lines of an end that there is not.
+// Returns the lines of an end that there is not.
 fn end_text(fault: &EndFault) -> Line
     ensures { result.bytes ≡ end_line fault.now }
 {
@@ -220,7 +224,22 @@ fn end_text(fault: &EndFault) -> Line
     line.push_str(Buffer::new().format(fault.number));
     line.push_str(": 1 NoEnd\n     ends found: ");
     line.push_str(Buffer::new().format(fault.found));
+    line.push_str(missed_text(fault.whole, fault.endless));
     line
+}
+
+// Returns the line that says what a search did not look at.
+fn missed_text(whole: bool, endless: bool) -> &'static str
+    ensures said { result.now ≡ missed_line whole endless }
+    ensures short { length result.now ≤ 56 }
+{
+    if !whole {
+        "\n     the search stopped: a greater --most looks farther"
+    } else if endless {
+        "\n     runs that need more than 65,535 rows have no end"
+    } else {
+        ""
+    }
 }
 
 // Returns the line of a refused file given with an input.

@@ -24,7 +24,7 @@ returns-in_default g c =
     fewer_ends c.args.most c.args.number c.args.text.now c.in_ok-program.program found _ c.in_ok-program.ensures
     (subst (λ (n : ℕ). IsFound c.in_ok-program.program n found) c.number.ensures.value ends) c.number-number.ensures.some
     (subst (λ (n : ℕ). length found.all.items ≤ n - 1) c.number-number.ensures.value
-    (subst (λ (es : List End). length es ≤ c.number-number.result - 1) read far)) c.number-number.ensures.value (search rules)
+    (subst (λ (es : List End). length es ≤ c.number-number.result - 1) read far)) c.number-number.ensures.value (search rules) refl refl
 
 pub returns : goal.returns
 returns g c =

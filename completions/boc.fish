@@ -70,7 +70,7 @@ complete -c boc -n '__boc_is sweep' -l best -x -d 'Print the K best lines, 1 to 
 complete -c boc -n '__boc_is cowns' -l top -x -d 'Print only the first K cowns, 1 to 256'
 complete -c boc -n '__boc_is why' -l all -d 'Print every row of the chain; do not fold rows'
 complete -c boc -n '__boc_is outcomes' -l all -d 'Draw nothing: search for all final states'
-complete -c boc -n '__boc_is outcomes' -l most -x -d 'With --all, look at FRONTS at most [default: 1000000]'
+complete -c boc -n '__boc_is outcomes' -l most -x -d 'With --all, look at 1 to 100,000,000 [default: 1000000]'
 complete -c boc -n '__boc_is outcomes' -l end -x -d 'With --all, print the record of a run to end K'
 complete -c boc -n '__boc_is why' -l then -x -d 'Make the best change, the best on top, .. K times, 1 to 5'
 complete -c boc -n '__boc_is values profile whatif curve sweep why cowns' -l record -r -F -d 'Take the run that FILE records; run nothing'

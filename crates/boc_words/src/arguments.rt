@@ -221,7 +221,7 @@ pub(crate) const MOST: NumberOption = NumberOption {
     letter: None,
     value_name: "FRONTS",
     numbers: Numbers::UpTo(MOST_FRONTS),
-    help: "With --all, look at FRONTS at most [default: 1000000]",
+    help: "With --all, look at 1 to 100,000,000 [default: 1000000]",
 };
 
 /// Of which end a run is recorded.

@@ -604,7 +604,8 @@ Output:
                                 them has seed S; their spans are A to B.
   NAME VALUE                    Final value of a cown, as boc values prints it
 The most frequent outcome comes first. Of equally frequent ones, the one found
-first comes first.
+first comes first. If one of the runs needs more than 65,535 rows, the status is
+4 and nothing is printed.
 
 To look at an outcome, repeat its run with its seed and the same -w and --depth.
 boc run also notes the rows that ended by a fault; boc outcomes does not.
@@ -627,25 +628,33 @@ With --all nothing is drawn. A search goes through the runs of any number of
 workers and all interleavings, and prints each end (final state) once. It puts
 beginnings of runs together that have as many rows, and of which the rest of a
 run is the same: these are a front. Not with --runs, --seed, -w and --depth.
-  all yes                Each run ends with one of these: there are no others
+  all yes                Each run of at most 65,535 rows ends with one of these
   all below R            The search stopped after FRONTS fronts. Each run of
                          fewer than R rows ends with one of these. A longer run
                          may end with another
   fronts N               Number of fronts that were looked at
-  rows LEAST MOST        Fewest and most rows of the runs that were found
-  endless                Some run needs more than 65,535 rows: it has no end
-  end K rows LEAST MOST  The Kth end, and the fewest and most rows of its runs
+  rows LEAST MOST        Fewest and most rows of the runs that were found. Left
+                         out if none was found
+  endless                Some run needs more than 65,535 rows. It was cut off
+                         there: whether it ends, and how, is not known
+  end K rows LEAST MOST  The Kth end, and the fewest and most rows of its runs.
+                         After `all below R`, of those that were found
   NAME VALUE             Value of a cown at this end
-Ends are sorted by the values of the first cown that differs. Some run ends with
-each end that is printed, also after `all below R`. N workers may not reach all.
+Ends are sorted by the value of the first cown that differs, smallest first. To
+each end that is printed there is a run, also after `all below R`. N workers may
+not reach all.
+
 With --end K the output is the record of a run to end K, of as few rows as can
-be. If there is no such end, the status is 4.
+be. K is the number that --all prints with the same --most. If there is no such
+end, the status is 4. To see why a run ends so, look at its record:
+  boc outcomes --all --end 2 program.boc > run.record
+  boc values --record run.record program.boc
+  boc why --record run.record program.boc
 
 Examples:
   boc outcomes program.boc
   boc outcomes --runs 10000 --depth 2 program.boc
   boc outcomes --all program.boc
-  boc outcomes --all --end 2 program.boc > run.record
 
 See also: boc help run, boc help values. Exit statuses: boc --help.";
 

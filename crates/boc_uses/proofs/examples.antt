@@ -1,0 +1,2 @@
+-- Small bodies.
+pub mod Bodies

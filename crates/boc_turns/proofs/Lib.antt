@@ -1,0 +1,16 @@
+pub mod Folding
+pub mod Pacing
+pub mod Arriving
+pub mod Gathering
+pub mod Placing
+pub mod Coursing
+pub mod Least
+pub mod Between
+pub mod Marking
+pub mod Spawning
+pub mod Counting
+pub mod Beginning
+pub mod Ending
+pub mod Detached
+pub mod Advancing
+pub mod examples

@@ -1,0 +1,5 @@
+pub mod Turns
+pub mod Pace
+pub mod Course
+pub mod Splits
+pub mod Workers

@@ -1,0 +1,12 @@
+//! When a run ends if some cowns are held only while they are used: from a row's first use of the cown to its last.
+#![tactic(auto)]
+
+mod coming;
+mod course;
+pub mod laws;
+mod pace;
+mod used;
+mod uses;
+
+pub use used::used_end;
+pub use uses::Use;

@@ -12,7 +12,7 @@ use Rattle.boc_runs.proofs.Freeing.{length-without, parent_of-without, offset_of
 use Rattle.boc_plans.specs.Plans.{start_of, IsChild, ConflictOn, Keeps, IsEnd}
 use Rattle.boc_plans.specs.Greedy.{IsSpan}
 use Rattle.boc_order.proofs.LeftOut.{was_conflict}
-use Rattle.boc_turns.specs.declared.uses.Use.{Use}
+use Rattle.boc_uses.specs.declared.uses.Use.{Use}
 use Rattle.boc_turns.specs.Turns.{use_of, AreUses, Times, over, KeepsTurn, KeepsTurns, IsOverBy, AreOverBy, IsUsedEnd, among}
 use Rattle.boc_turns.specs.Turns.{without_all, AreWithin}
 use Rattle.boc_turns.proofs.Least.{over_cases, made_more, none_end_sooner}

@@ -12,7 +12,7 @@ use Rattle.boc_program.specs.declared.limits.TheConstants.{MOST_COWNS, MOST_TICK
 use Rattle.boc_runs.specs.declared.rows.Row.{Row}
 use Rattle.boc_runs.specs.Rows.{IsRows, parent_of, offset_of, ticks_of, cowns_of, written_of}
 use Rattle.boc_order.proofs.Found.{found, finds}
-use Rattle.boc_turns.specs.declared.uses.Use.{Use}
+use Rattle.boc_uses.specs.declared.uses.Use.{Use}
 use Rattle.boc_turns.specs.declared.pace.Wait.{Wait}
 use Rattle.boc_turns.specs.declared.pace.Pace.{Pace}
 use Rattle.boc_turns.specs.declared.coming.Hold.{Hold}

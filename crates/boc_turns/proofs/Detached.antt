@@ -6,7 +6,7 @@ use Rattle.std.specs.Option.{option_map}
 use Rattle.std.proofs.lemmas.List.{drop-map, length-map}
 use Rattle.boc_runs.specs.declared.rows.Row.{Row}
 use Rattle.boc_runs.specs.Rows.{ticks_of, cowns_of}
-use Rattle.boc_turns.specs.declared.uses.Use.{Use}
+use Rattle.boc_uses.specs.declared.uses.Use.{Use}
 use Rattle.boc_turns.specs.Turns.{cowns_before, use_at, use_of, AreUses, IsWithin, Times, over, IsTurn, KeepsTurns, KeepsRow, IsUsedEnd}
 use Rattle.boc_turns.specs.Splits.{detached_use, detached, KeepsSplit, SplitEndsBy}
 use Rattle.boc_turns.proofs.Least.{over_cases, made_more, none_end_sooner}

@@ -6,7 +6,7 @@ use Rattle.std.proofs.lemmas.List.{get_or_past}
 use Rattle.boc_program.specs.declared.limits.TheConstants.{MOST_COWNS}
 use Rattle.boc_runs.specs.declared.rows.Row.{Row}
 use Rattle.boc_order.proofs.Found.{among_tells}
-use Rattle.boc_turns.specs.declared.uses.Use.{Use}
+use Rattle.boc_uses.specs.declared.uses.Use.{Use}
 use Rattle.boc_turns.specs.declared.course.Course.{Course}
 use Rattle.boc_turns.specs.Turns.{IsUsedEnd, among}
 use Rattle.boc_turns.specs.Course.{HasCourse, marked}

@@ -2,7 +2,7 @@
 use Rattle.std.proofs.Common.{◌≡◌, ◌⊎◌, inl, inr, ℕ, zero, suc, ◌+◌, ◌-◌, ◌<◌, ◌≤◌, Bool, true, false, List, length, Option, refl, subst, arith}
 use Rattle.boc_runs.specs.declared.rows.Row.{Row}
 use Rattle.boc_runs.specs.Rows.{ticks_of}
-use Rattle.boc_turns.specs.declared.uses.Use.{Use}
+use Rattle.boc_uses.specs.declared.uses.Use.{Use}
 use Rattle.boc_turns.specs.Turns.{AreUses, Times, over, IsTurn, KeepsRow, KeepsTurns, IsNoLater, AreEarliest, IsOverBy, AreOverBy, IsUsedEnd}
 
 -- when a turn is over, by whether the row needs the cown

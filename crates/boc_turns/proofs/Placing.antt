@@ -10,7 +10,7 @@ use Rattle.boc_runs.specs.Rows.{IsRows, parent_of, offset_of, ticks_of, cowns_of
 use Rattle.boc_plans.specs.Plans.{IsChild, ConflictOn}
 use Rattle.boc_order.proofs.Found.{among_tells}
 use Rattle.boc_order.proofs.Near.{writes_own}
-use Rattle.boc_turns.specs.declared.uses.Use.{Use}
+use Rattle.boc_uses.specs.declared.uses.Use.{Use}
 use Rattle.boc_turns.specs.declared.pace.Wait.{Wait}
 use Rattle.boc_turns.specs.Pace.{made_by, wait_of}
 use Rattle.boc_turns.specs.Turns.{AreUses, Times, over, IsTurn, KeepsTurn, KeepsRow, KeepsTurns, IsNoLater, IsOverBy}

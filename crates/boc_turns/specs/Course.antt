@@ -6,7 +6,7 @@ use Rattle.std.specs.Option.{option_map_or}
 use Rattle.boc_program.specs.declared.limits.TheConstants.{MOST_COWNS, MOST_TICKS}
 use Rattle.boc_runs.specs.declared.rows.Row.{Row}
 use Rattle.boc_runs.specs.Rows.{ticks_of, cowns_of, written_of}
-use Rattle.boc_turns.specs.declared.uses.Use.{Use}
+use Rattle.boc_uses.specs.declared.uses.Use.{Use}
 use Rattle.boc_turns.specs.declared.pace.Wait.{Wait}
 use Rattle.boc_turns.specs.declared.pace.Pace.{Pace}
 use Rattle.boc_turns.specs.declared.coming.Coming.{Coming}

@@ -2,7 +2,7 @@
 use Rattle.std.specs.Prelude.{ℕ, ◌+◌, ◌-◌, ◌*◌, ◌≤◌, max, nat_lt, Bool, true, false, cond, List, [], ◌∷◌, ◌++◌, Option, Some, None, slice_index, slice_set}
 use Rattle.std.specs.List.{fold}
 use Rattle.boc_program.specs.declared.limits.TheConstants.{MOST_ROWS, MOST_TICKS}
-use Rattle.boc_turns.specs.declared.uses.Use.{Use}
+use Rattle.boc_uses.specs.declared.uses.Use.{Use}
 use Rattle.boc_turns.specs.declared.pace.Wait.{Wait}
 use Rattle.boc_turns.specs.declared.coming.Hold.{Hold}
 use Rattle.boc_turns.specs.declared.coming.Hold.TheVariants.{Whole, Never, Turn}

@@ -4,7 +4,7 @@ use Rattle.std.specs.Option.{option_map}
 use Rattle.boc_runs.specs.declared.rows.Row.{Row}
 use Rattle.boc_runs.specs.Rows.{offset_of, ticks_of}
 use Rattle.boc_plans.specs.Plans.{IsChild, ConflictOn}
-use Rattle.boc_turns.specs.declared.uses.Use.{Use}
+use Rattle.boc_uses.specs.declared.uses.Use.{Use}
 use Rattle.boc_turns.specs.Turns.{use_of, Times, IsTurn}
 
 -- the same use of a cown whose value the row doesn't need

@@ -5,7 +5,7 @@ use Rattle.boc_runs.specs.declared.rows.Row.{Row}
 use Rattle.boc_runs.specs.Rows.{offset_of, ticks_of, cowns_of}
 use Rattle.boc_runs.specs.Changes.{without}
 use Rattle.boc_plans.specs.Plans.{IsChild, ConflictOn}
-use Rattle.boc_turns.specs.declared.uses.Use.{Use}
+use Rattle.boc_uses.specs.declared.uses.Use.{Use}
 
 -- ---- uses
 

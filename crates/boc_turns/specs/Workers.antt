@@ -5,7 +5,7 @@ use Rattle.boc_runs.specs.declared.rows.Row.{Row}
 use Rattle.boc_runs.specs.Rows.{offset_of}
 use Rattle.boc_plans.specs.Plans.{start_of, end_of, IsChild, ConflictOn}
 use Rattle.boc_plans.specs.Greedy.{worker_of, IsFree, IsTaken}
-use Rattle.boc_turns.specs.declared.uses.Use.{Use}
+use Rattle.boc_uses.specs.declared.uses.Use.{Use}
 use Rattle.boc_turns.specs.Turns.{use_of, Times, over, IsTurn, KeepsTurn, AreOverBy}
 
 -- the times of a plan in which no body waits: a row makes its ticks one after the other from its start on, and its turns begin then

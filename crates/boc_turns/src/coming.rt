@@ -8,9 +8,9 @@ ghost use Rattle.boc_turns.specs.Pace.{and_wait, hold_of, latest, left_of, left_
 ghost use Rattle.boc_turns.specs.Course.{AreComing, coming_by};
 
 use crate::pace::{Wait, turn_over};
-use crate::uses::Use;
 use boc_plans::sharing::SeenRows;
 use boc_program::short::HeldCown;
+use boc_uses::Use;
 use std::alloc::AllocError;
 
 /// How a row holds a cown.

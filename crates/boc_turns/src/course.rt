@@ -2,9 +2,9 @@
 
 use crate::coming::{Coming, leave, note_coming, push_waits, start_of};
 use crate::pace::{Pace, Wait, made};
-use crate::uses::Use;
 use boc_plans::sharing::SeenRows;
 use boc_program::limits::MOST_COWNS;
+use boc_uses::Use;
 use std::alloc::{AllocError, Global};
 
 /// The rows so far, as they are placed.
@@ -30,7 +30,7 @@ impl Course {
     ghost use Rattle.std.specs.Prelude.{◌≡◌, ℕ, ◌<◌, ◌+◌, Bool, List, length, Option, IfOk};
     ghost use Rattle.boc_program.specs.declared.limits.TheConstants.{MOST_COWNS};
     ghost use Rattle.boc_runs.specs.Rows.{IsRows, parent_of, offset_of};
-    ghost use Rattle.boc_turns.specs.declared.uses.Use.{Use};
+    ghost use Rattle.boc_uses.specs.declared.uses.Use.{Use};
     ghost use Rattle.boc_turns.specs.Turns.{AreUses};
     ghost use Rattle.boc_turns.specs.Course.{HasCourse, made_in, marked};
 

@@ -5,7 +5,7 @@ ghost use Rattle.std.specs.Prelude.{◌≡◌, ℕ, ◌<◌, ◌≤◌, Bool, Li
 ghost use Rattle.boc_runs.specs.declared.rows.Row.{Row};
 ghost use Rattle.boc_runs.specs.Rows.{IsRows, ticks_of};
 ghost use Rattle.boc_plans.specs.Greedy.{IsSpan};
-ghost use Rattle.boc_turns.specs.declared.uses.Use.{Use};
+ghost use Rattle.boc_uses.specs.declared.uses.Use.{Use};
 ghost use Rattle.boc_turns.specs.Splits.{SplitEndsBy, detached};
 ghost use Rattle.boc_turns.specs.Turns.{AreEarliest, AreOverBy, AreUses, AreWithin, IsTurn, IsUsedEnd, KeepsTurns, Times, among, without_all};
 

@@ -6,7 +6,5 @@ mod course;
 pub mod laws;
 mod pace;
 mod used;
-mod uses;
 
 pub use used::used_end;
-pub use uses::Use;

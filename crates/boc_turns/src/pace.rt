@@ -5,7 +5,7 @@ ghost use Rattle.boc_program.specs.declared.limits.TheConstants.{MOST_ROWS, MOST
 ghost use Rattle.boc_turns.specs.Pace.{made_by, over_by, IsLow};
 ghost use Rattle.boc_turns.specs.Turns.{IsWithin};
 
-use crate::uses::Use;
+use boc_uses::Use;
 
 /// A body waits with a tick until a cown comes: from that tick on it is as if the row had started this late, or later.
 #[derive(Clone, Copy)]

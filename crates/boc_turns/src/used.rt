@@ -7,10 +7,10 @@ ghost use Rattle.boc_turns.specs.Turns.{AreUses, IsUsedEnd, among};
 ghost use Rattle.boc_turns.specs.Course.{marked};
 
 use crate::course::Course;
-use crate::uses::Use;
 use boc_plans::sharing::SeenRows;
 use boc_program::limits::MOST_COWNS;
 use boc_program::short::HeldCown;
+use boc_uses::Use;
 use std::alloc::{AllocError, Global};
 
 // Returns for each cown whether it is one of these. `AllocError` says that memory was refused.

@@ -4,7 +4,7 @@ use Rattle.std.proofs.Common.{lit<, arith}
 use Rattle.boc_program.specs.declared.body.EndStatus.TheVariants.{Done}
 use Rattle.boc_runs.specs.declared.rows.Row.{Row}
 use Rattle.boc_plans.specs.Plans.{ConflictOn}
-use Rattle.boc_turns.specs.declared.uses.Use.{Use}
+use Rattle.boc_uses.specs.declared.uses.Use.{Use}
 use Rattle.boc_turns.specs.Pace.{made_by, over_by, wait_of}
 use Rattle.boc_turns.specs.Turns.{use_of, Times, over, IsTurn, KeepsTurn, KeepsTurns, IsOverBy, among}
 

@@ -67,7 +67,7 @@ use_there (x ∷ cowns) (o ∷ uses) (suc k) apart h there =
     rw t (use_there cowns uses k (λ i j lt low. apart (suc i) (suc j) (omega (arith, lt)) (omega (arith, low))) (omega (arith, h)) (omega (arith, there)))
 
 module _ (rows : List Row) (hr : IsRows rows) (uses : List (Option Use)) (r : ℕ) (there : r < length rows) where
-  distinct : (i j : ℕ) → i < j → j < length (cowns_of rows r) → slice_index (cowns_of rows r) i ≢ slice_index (cowns_of rows r) j
+  pub distinct : (i j : ℕ) → i < j → j < length (cowns_of rows r) → slice_index (cowns_of rows r) i ≢ slice_index (cowns_of rows r) j
   distinct i j lt low same =
       omega (arith, same, AllPairs-from_increasing (cowns_of rows r) (hr.cowns_rise r there) i j 0 lt low)
 

@@ -13,4 +13,6 @@ pub mod Beginning
 pub mod Ending
 pub mod Detached
 pub mod Advancing
+pub mod Adding
+pub mod SeenUses
 pub mod examples

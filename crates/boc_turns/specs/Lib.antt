@@ -3,3 +3,4 @@ pub mod Pace
 pub mod Course
 pub mod Splits
 pub mod Workers
+pub mod Ticks

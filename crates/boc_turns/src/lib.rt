@@ -5,6 +5,8 @@ mod coming;
 mod course;
 pub mod laws;
 mod pace;
+mod ticks;
 mod used;
 
+pub use ticks::ticks_used;
 pub use used::used_end;

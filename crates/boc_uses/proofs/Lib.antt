@@ -4,5 +4,6 @@ pub mod Walked
 pub mod Summed
 pub mod Whole
 pub mod Writes
+pub mod Within
 pub mod Unneeded
 pub mod examples

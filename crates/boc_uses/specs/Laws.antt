@@ -1,5 +1,5 @@
 -- Laws of uses.
-use Rattle.std.specs.Prelude.{◌≡◌, ◌<◌, ℕ, zero, suc, Bool, true, false, List, [], ◌∷◌, length, map, Option, Some, None, ℤ, slice_get, slice_set}
+use Rattle.std.specs.Prelude.{◌≡◌, ◌<◌, ◌≤◌, ℕ, zero, suc, Bool, true, false, List, [], ◌∷◌, length, map, Option, Some, None, ℤ, slice_get, slice_set}
 use Rattle.std.specs.List.{filter}
 use Rattle.boc_program.specs.declared.body.Body.{Body}
 use Rattle.boc_program.specs.declared.short.Input.{Input}
@@ -23,6 +23,26 @@ slots_written us = map (λ u. u.slot) (filter (λ u. writes u.way) us)
 -- the writes among the uses of a body are the assignments of its meaning, one after another
 abbrev pub WritesAreAssignments : Body → List ℤ → List Input → Type 0
 WritesAreAssignments body args inputs = slots_written (body_uses body args inputs) ≡ (whole body args inputs).assigned
+
+-- the ticks of uses rise from one tick to another, each no lower than the one before it
+abbrev pub RiseBetween : ℕ → List SlotUse → ℕ → Type 0
+RiseBetween low [] high = low ≤ high
+RiseBetween low (u ∷ us) high = (low ≤ u.tick) × RiseBetween u.tick us high
+
+-- the uses of a body rise from its first tick to its last
+abbrev pub UsesRise : Body → List ℤ → List Input → Type 0
+UsesRise body args inputs = RiseBetween 1 (body_uses body args inputs) (meaning body args inputs).ticks
+
+-- the first use is at the first of so many ticks or later, and no later than the last use, which is at the last of them or sooner
+pub record LiesWithin (ticks : ℕ) (u : Use) : Type 0 where
+  pub from_one : 1 ≤ u.first
+  pub rises : u.first ≤ u.last
+  pub ends : u.last ≤ ticks
+
+-- the uses of each cown that a body holds lie within the body's ticks
+abbrev pub UsesLieWithin : Body → List ℤ → List Input → Type 0
+UsesLieWithin body args inputs =
+    (place : ℕ) (u : Use) → slice_get (cown_uses body args inputs) place ≡ Some (Some u) → LiesWithin (meaning body args inputs).ticks u
 
 -- the same inputs, but for another value of one of the cowns
 abbrev pub with_value : List Input → ℕ → ℤ → List Input

@@ -1,0 +1,2 @@
+pub mod RowUses
+pub mod InTurn

@@ -21,7 +21,7 @@ module _ (rows : List Row) where
           let cowns : length (cowns_of (x ∷ xs) n) ≡ f (get_or (x ∷ xs) n x) = rw here refl in
           omega (arith, cowns, sum_by_more f (x ∷ xs) n x there)
 
-  before_le : (d a b : ℕ) → a + d ≡ b → b ≤ length rows → cowns_before rows a ≤ cowns_before rows b
+  pub before_le : (d a b : ℕ) → a + d ≡ b → b ≤ length rows → cowns_before rows a ≤ cowns_before rows b
   before_le zero a b e there =
       let same : a ≡ b = omega (arith, e) in
       subst (λ (k : ℕ). cowns_before rows a ≤ cowns_before rows k) same (omega arith)

@@ -35,7 +35,7 @@ module _ (marks : List Bool) (cowns : List ℕ) (whole : length marks ≡ MOST_C
     | inr high ↦ get_or_past marks c false (omega (arith, whole, high)) ∙ sym (none_past c high)
   ]
 
-  same_marks : marked marks ≡ among cowns
+  pub same_marks : marked marks ≡ among cowns
   same_marks = λ i c. same_mark c i
 
   pub end_is : (rows : List Row) (uses : List (Option Use)) (course : Course) (n : ℕ) → n ≡ length rows → HasCourse rows uses (marked marks) n course

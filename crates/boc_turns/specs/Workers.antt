@@ -1,4 +1,4 @@
--- Greedy plans for p workers where some cowns are relaxed: greedy as ever, but for which rows are ready. No function finds them so far.
+-- Greedy plans for p workers where some cowns are relaxed: greedy as ever, but for which rows are ready. boc_used_greedy finds their ends.
 use Rattle.std.specs.Prelude.{◌≡◌, ℕ, ◌+◌, ◌<◌, ◌≤◌, Bool, true, false, List, length, Option, Some}
 use Rattle.std.specs.List.{Contains}
 use Rattle.boc_runs.specs.declared.rows.Row.{Row}

@@ -9,4 +9,4 @@ mod ticks;
 mod used;
 
 pub use ticks::ticks_used;
-pub use used::used_end;
+pub use used::{marks_of, used_end};

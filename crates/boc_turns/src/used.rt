@@ -13,8 +13,8 @@ use boc_program::short::HeldCown;
 use boc_uses::Use;
 use std::alloc::{AllocError, Global};
 
-// Returns for each cown whether it is one of these. `AllocError` says that memory was refused.
-fn marks_of(alloc: Global, cowns: &[HeldCown]) -> Result<Vec<bool>, AllocError>
+/// Returns for each cown whether it is one of these. `AllocError` says that memory was refused.
+pub fn marks_of(alloc: Global, cowns: &[HeldCown]) -> Result<Vec<bool>, AllocError>
     ensures whole { IfOk result (λ marks. length marks.items ≡ MOST_COWNS) }
     ensures marked { IfOk result (λ marks. (c : ℕ) → c < MOST_COWNS → marked marks.items c ≡ among cowns.now c) }
 {

@@ -1,8 +1,6 @@
 // Ticks as places along a line.
 
-use crate::html::put;
-use boc_text::put_number;
-use std::alloc::AllocError;
+use crate::written::Written;
 
 /// Where numbers up to an end are on a line: it begins at a place, and is so long. Places and lengths are hundredths of a pixel.
 #[derive(Clone, Copy, Debug)]
@@ -58,18 +56,18 @@ fn next_step(step: u64) -> u64 {
 }
 
 /// Appends a length in hundredths of a pixel to a text, in pixels.
-pub(crate) fn put_length(text: &mut Vec<u8>, hundredths: u64) -> Result<(), AllocError> {
-    put_number(text, hundredths / 100)?;
+pub(crate) fn put_length(text: &mut Written, hundredths: u64) {
+    text.put_number(hundredths / 100);
     let rest = hundredths % 100;
     if rest == 0 {
-        return Ok(());
+        return;
     }
-    text.push(b'.')?;
-    put_number(text, rest / 10)?;
+    text.push(b'.');
+    text.put_number(rest / 10);
     if rest % 10 == 0 {
-        return Ok(());
+        return;
     }
-    put_number(text, rest % 10)
+    text.put_number(rest % 10);
 }
 
 /// A rectangle, in hundredths of a pixel.
@@ -93,82 +91,66 @@ impl Area {
     }
 
     /// Appends the rectangle to the shape of a path.
-    pub(crate) fn put(self, text: &mut Vec<u8>) -> Result<(), AllocError> {
-        text.push(b'M')?;
-        put_length(text, self.x)?;
-        text.push(b' ')?;
-        put_length(text, self.y)?;
-        text.push(b'h')?;
-        put_length(text, self.width)?;
-        text.push(b'v')?;
-        put_length(text, self.height)?;
-        put(text, "h-")?;
-        put_length(text, self.width)?;
-        text.push(b'z')?;
-        Ok(())
+    pub(crate) fn put(self, text: &mut Written) {
+        text.push(b'M');
+        put_length(text, self.x);
+        text.push(b' ');
+        put_length(text, self.y);
+        text.push(b'h');
+        put_length(text, self.width);
+        text.push(b'v');
+        put_length(text, self.height);
+        text.put("h-");
+        put_length(text, self.width);
+        text.push(b'z');
     }
 }
 
 /// Appends a line from a point down to another height to the shape of a path.
-pub(crate) fn put_down(text: &mut Vec<u8>, x: u64, from: u64, to: u64) -> Result<(), AllocError> {
-    text.push(b'M')?;
-    put_length(text, x)?;
-    text.push(b' ')?;
-    put_length(text, from)?;
-    text.push(b'V')?;
-    put_length(text, to)
+pub(crate) fn put_down(text: &mut Written, x: u64, from: u64, to: u64) {
+    text.push(b'M');
+    put_length(text, x);
+    text.push(b' ');
+    put_length(text, from);
+    text.push(b'V');
+    put_length(text, to);
 }
 
 /// Appends a line from a point to another place to the shape of a path.
-pub(crate) fn put_across(text: &mut Vec<u8>, y: u64, from: u64, to: u64) -> Result<(), AllocError> {
-    text.push(b'M')?;
-    put_length(text, from)?;
-    text.push(b' ')?;
-    put_length(text, y)?;
-    text.push(b'H')?;
-    put_length(text, to)
+pub(crate) fn put_across(text: &mut Written, y: u64, from: u64, to: u64) {
+    text.push(b'M');
+    put_length(text, from);
+    text.push(b' ');
+    put_length(text, y);
+    text.push(b'H');
+    put_length(text, to);
 }
 
 // Appends the line of a number down to a place to a text, and the number above it. Every other number leaves a narrow drawing.
-fn put_mark(
-    text: &mut Vec<u8>,
-    axis: Axis,
-    tick: u64,
-    is_odd: bool,
-    top: u64,
-    foot: u64,
-) -> Result<(), AllocError> {
+fn put_mark(text: &mut Written, axis: Axis, tick: u64, is_odd: bool, top: u64, foot: u64) {
     let x = axis.at(tick);
-    put(text, "<path d=\"")?;
-    put_down(text, x, top, foot)?;
-    put(
-        text,
-        if is_odd {
-            "\"/><text class=\"wide\" x=\""
-        } else {
-            "\"/><text x=\""
-        },
-    )?;
-    put_length(text, x)?;
-    put(text, "\" y=\"")?;
-    put_length(text, top.saturating_sub(500))?;
-    put(text, "\">")?;
-    put_number(text, tick)?;
-    put(text, "</text>\n")
+    text.put("<path d=\"");
+    put_down(text, x, top, foot);
+    text.put(if is_odd {
+        "\"/><text class=\"wide\" x=\""
+    } else {
+        "\"/><text x=\""
+    });
+    put_length(text, x);
+    text.put("\" y=\"");
+    put_length(text, top.saturating_sub(500));
+    text.put("\">");
+    text.put_number(tick);
+    text.put("</text>\n");
 }
 
 /// Appends the numbers above a line to a text, and a thin line under each down to a place.
-pub(crate) fn put_axis(
-    text: &mut Vec<u8>,
-    axis: Axis,
-    top: u64,
-    foot: u64,
-) -> Result<(), AllocError> {
+pub(crate) fn put_axis(text: &mut Written, axis: Axis, top: u64, foot: u64) {
     let step = axis.step(10);
-    put(text, "<g class=\"axis\">\n")?;
+    text.put("<g class=\"axis\">\n");
     for number in 0..=axis.end / step.max(1) {
         let tick = number.saturating_mul(step);
-        put_mark(text, axis, tick, number % 2 == 1, top, foot)?;
+        put_mark(text, axis, tick, number % 2 == 1, top, foot);
     }
-    put(text, "</g>\n")
+    text.put("</g>\n");
 }

@@ -1,5 +1,7 @@
 // Ticks as columns of a text.
 
+use crate::spelling::Spelling;
+use crate::written::Written;
 use std::alloc::{AllocError, Global};
 
 /// The given number of ticks to a column, up to an end.
@@ -18,13 +20,10 @@ impl Columns {
     }
 
     /// Puts how many ticks a column takes.
-    pub(crate) fn put_scale(self, text: &mut String) -> Result<(), AllocError> {
-        let ticks = self.ticks;
-        if ticks == 1 {
-            text.push_str("1 column = 1 tick")
-        } else {
-            write!(text, "1 column = {ticks} ticks")
-        }
+    pub(crate) fn put_scale(self, text: &mut Written) {
+        text.put("1 column = ");
+        text.put_number(self.ticks);
+        text.put(if self.ticks == 1 { " tick" } else { " ticks" });
     }
 
     /// Returns how many columns there are.
@@ -34,11 +33,7 @@ impl Columns {
 
     /// Returns a line of blanks.
     pub(crate) fn line(self, alloc: Global) -> Result<Vec<u8>, AllocError> {
-        let mut line = Vec::new(alloc);
-        for _ in 0..self.count() {
-            line.push(b' ')?;
-        }
-        Ok(line)
+        vec![in alloc; b' '; self.count()]
     }
 
     /// Paints the columns into which ticks from one on up to another one fall.
@@ -86,10 +81,10 @@ pub(crate) fn longest_word(width: usize) -> usize {
 
 /// Puts a line of words in the given number of columns: where they don't fit, it goes on in a further line. A word that is longer than `longest_word` is there
 /// whole.
-pub(crate) fn put_folded(text: &mut String, line: &str, width: usize) -> Result<(), AllocError> {
+pub(crate) fn put_folded(text: &mut Written, line: &[u8], width: usize) {
     let mut column: usize = 0;
     let mut blanks: usize = 0;
-    for word in line.split(' ') {
+    for word in line.split(|byte| *byte == b' ') {
         if word.is_empty() {
             blanks = blanks.saturating_add(1);
             continue;
@@ -101,38 +96,66 @@ pub(crate) fn put_folded(text: &mut String, line: &str, width: usize) -> Result<
         };
         let past = column.saturating_add(gap).saturating_add(word.len());
         if column > 0 && past > width {
-            text.push('\n')?;
+            text.push(b'\n');
             column = INDENT;
-            for _ in 0..INDENT {
-                text.push(' ')?;
-            }
+            put_blanks(text, INDENT);
         } else {
             column = column.saturating_add(gap);
-            for _ in 0..gap {
-                text.push(' ')?;
-            }
+            put_blanks(text, gap);
         }
-        text.push_str(word)?;
+        text.put_bytes(word);
         column = column.saturating_add(word.len());
         blanks = 0;
     }
-    text.push('\n')
+    text.push(b'\n');
+}
+
+// Puts this many blanks.
+fn put_blanks(text: &mut Written, count: usize) {
+    for _ in 0..count {
+        text.push(b' ');
+    }
 }
 
 /// Puts a line of cells between bars.
-pub(crate) fn put_line(text: &mut String, line: &[u8]) -> Result<(), AllocError> {
-    text.push('|')?;
-    for cell in line {
-        text.push(char::from(*cell))?;
-    }
-    text.push('|')
+pub(crate) fn put_line(text: &mut Written, line: &[u8]) {
+    text.push(b'|');
+    text.put_bytes(line);
+    text.push(b'|');
 }
 
-/// Puts a word, and blanks up to the given number of columns.
-pub(crate) fn put_padded(text: &mut String, word: &str, width: usize) -> Result<(), AllocError> {
-    text.push_str(word)?;
-    for _ in word.len()..width {
-        text.push(' ')?;
+/// Puts a name, as much of it as goes into the given number of columns, and blanks up to there, and one more.
+pub(crate) fn put_label(text: &mut Written, name: &[u8], width: usize) {
+    let before = text.len();
+    Spelling::Text.put(text, name, width);
+    let taken = text.len().saturating_sub(before);
+    put_blanks(text, width.saturating_sub(taken));
+    text.push(b' ');
+}
+
+/// Puts a number, with blanks before it up to the given number of columns.
+pub(crate) fn put_right(text: &mut Written, number: u64, width: usize) {
+    put_blanks(text, width.saturating_sub(digits(number)));
+    text.put_number(number);
+}
+
+/// Puts a part of a whole in percents, in a column of its own.
+pub(crate) fn put_busy(text: &mut Written, part: u64, whole: u64) {
+    text.push(b' ');
+    put_right(text, percent(part, whole), 3);
+    text.put("%\n");
+}
+
+/// Returns how many digits a number has.
+pub(crate) fn digits(number: u64) -> usize {
+    let mut digits: usize = 1;
+    let mut rest = number / 10;
+    for _ in 0..20 {
+        if rest == 0 {
+            break;
+        }
+        digits = digits.saturating_add(1);
+        rest /= 10;
     }
-    Ok(())
+    digits
 }

@@ -1,6 +1,8 @@
 // The ends of greedy plans in text.
 
-use crate::columns::{percent, put_folded};
+use crate::columns::{digits, percent, put_folded, put_right};
+use crate::html::put_padded;
+use crate::written::Written;
 use boc_greedy::CurvePoint;
 use std::alloc::{AllocError, Global};
 
@@ -16,20 +18,6 @@ const LEAST_MARKS: usize = 10;
 
 // How many digits an end has at most, where the table's head is right above it.
 const DIGITS: usize = 10;
-
-// Returns how many digits a number has.
-fn digits(number: u64) -> usize {
-    let mut digits: usize = 1;
-    let mut rest = number / 10;
-    for _ in 0..20 {
-        if rest == 0 {
-            break;
-        }
-        digits = digits.saturating_add(1);
-        rest /= 10;
-    }
-    digits
-}
 
 /// The columns of the table.
 #[derive(Clone, Copy)]
@@ -92,13 +80,12 @@ pub fn curve_text(
     span: u64,
     points: &[CurvePoint],
     width: usize,
-) -> Result<String, AllocError> {
+) -> Result<Vec<u8>, AllocError> {
     let enough = enough(points);
     let shape = Shape::within(points, width);
-    let mut text = String::new(alloc);
-    let head = format!(in alloc; "work {work}   span {span}")?;
-    put_folded(&mut text, head.as_str(), width)?;
-    text.push_str(shape.head())?;
+    let mut text = Written::new(alloc);
+    put_folded(&mut text, &head_of(alloc, work, span)?, width);
+    text.put(shape.head());
     let most = points
         .iter()
         .map(|point| speed_up(work, point.end))
@@ -106,55 +93,73 @@ pub fn curve_text(
         .unwrap_or(1);
     for point in points {
         if point.workers.is_power_of_two() || point.workers == enough {
-            put_point(&mut text, work, point, most, shape)?;
+            put_point(&mut text, work, point, most, shape);
         }
     }
-    let gain = gain_of(alloc, span, points)?;
-    put_folded(&mut text, gain.as_str(), width)?;
-    Ok(text)
+    put_folded(&mut text, &gain_of(alloc, span, points)?, width);
+    text.into_text()
+}
+
+// Returns the work and the span in words.
+fn head_of(alloc: Global, work: u64, span: u64) -> Result<Vec<u8>, AllocError> {
+    let mut text = Written::new(alloc);
+    text.put("work ");
+    text.put_number(work);
+    text.put("   span ");
+    text.put_number(span);
+    text.into_text()
 }
 
 // Puts the line of a number of workers.
-fn put_point(
-    text: &mut String,
-    work: u64,
-    point: &CurvePoint,
-    most: u64,
-    shape: Shape,
-) -> Result<(), AllocError> {
+fn put_point(text: &mut Written, work: u64, point: &CurvePoint, most: u64, shape: Shape) {
     let speed_up = speed_up(work, point.end);
     let busy = percent(work, point.end.saturating_mul(point.workers as u64));
-    let whole = speed_up / 100;
-    let hundredths = speed_up % 100;
-    write!(text, "{:>3} {:>10} ", point.workers, point.end)?;
+    put_right(text, u64::from(point.workers), 3);
+    put_column(text, point.end);
     if shape.full {
-        write!(text, "{:>10} {:>10} ", point.low, point.bound)?;
+        put_column(text, point.low);
+        put_column(text, point.bound);
     }
-    write!(text, "{whole:>6}.{hundredths:02} {busy:>4}%  ")?;
+    text.push(b' ');
+    put_right(text, speed_up / 100, 6);
+    text.push(b'.');
+    put_padded(text, speed_up % 100, 10);
+    text.push(b' ');
+    put_right(text, busy, 4);
+    text.put("%  ");
     for _ in 0..speed_up.saturating_mul(shape.marks as u64) / most.max(1) {
-        text.push('*')?;
+        text.push(b'*');
     }
-    text.push('\n')
+    text.push(b'\n');
+}
+
+// Puts a number in a column of the table, after a blank.
+fn put_column(text: &mut Written, number: u64) {
+    text.push(b' ');
+    put_right(text, number, DIGITS);
 }
 
 // Returns from which number of workers on none gains anything, where that is known: where their plan ends at the span. Else of which of these
 // numbers the plan ends soonest.
-fn gain_of(alloc: Global, span: u64, points: &[CurvePoint]) -> Result<String, AllocError> {
+fn gain_of(alloc: Global, span: u64, points: &[CurvePoint]) -> Result<Vec<u8>, AllocError> {
+    let mut text = Written::new(alloc);
     let enough = enough(points);
     let least = points.iter().map(|point| point.end).min().unwrap_or(0);
     if least == span {
-        let gain = if enough == 1 {
-            "worker gains"
+        text.put("more than ");
+        text.put_number(u64::from(enough));
+        text.put(if enough == 1 {
+            " worker gains"
         } else {
-            "workers gain"
-        };
-        format!(in alloc;
-            "more than {enough} {gain} nothing in this run: the plan ends at the span"
-        )
+            " workers gain"
+        });
+        text.put(" nothing in this run: the plan ends at the span");
     } else {
-        format!(in alloc;
-            "no plan for up to {} workers ends at the span; that for {enough} ends soonest",
-            points.len()
-        )
+        text.put("no plan for up to ");
+        text.put_number(points.len() as u64);
+        text.put(" workers ends at the span; that for ");
+        text.put_number(u64::from(enough));
+        text.put(" ends soonest");
     }
+    text.into_text()
 }

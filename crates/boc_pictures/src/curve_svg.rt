@@ -3,9 +3,9 @@
 use crate::axis::{Axis, put_across, put_length};
 use crate::curve_lines::{enough, speed_up};
 use crate::drawing::{Heading, Point, open_words, put_heading, put_words, whole};
-use crate::html::{put, put_hundredths};
+use crate::html::put_hundredths;
+use crate::written::Written;
 use boc_greedy::CurvePoint;
-use boc_text::put_number;
 use std::alloc::{AllocError, Global};
 
 // Lengths, in hundredths of a pixel.
@@ -101,17 +101,17 @@ pub fn curve_drawing(alloc: Global, curve: &DrawnCurve<'_>) -> Result<Vec<u8>, A
     let most = speed_up(curve.work, curve.span)
         .min((points.len() as u64).saturating_mul(100))
         .max(100);
-    let mut text = Vec::new(alloc);
-    let y = put_heading(&mut text, curve.heading)?;
-    put_words_above(&mut text, curve, y.saturating_add(2_000))?;
+    let mut text = Written::new(alloc);
+    let y = put_heading(&mut text, curve.heading);
+    put_words_above(&mut text, curve, y.saturating_add(2_000));
     let plot = Plot::of(points, most, y.saturating_add(5_000));
-    put_scales(&mut text, plot, most)?;
-    put_roofs(&mut text, plot, curve)?;
+    put_scales(&mut text, plot, most);
+    put_roofs(&mut text, plot, curve);
     for end in [End::Least, End::Bound, End::Greedy] {
-        put_curve(&mut text, plot, curve.work, points, end)?;
+        put_curve(&mut text, plot, curve.work, points, end);
     }
-    put_dots(&mut text, plot, curve.work, points)?;
-    let y = put_key(&mut text, plot.foot.saturating_add(6_500))?;
+    put_dots(&mut text, plot, curve.work, points);
+    let y = put_key(&mut text, plot.foot.saturating_add(6_500));
     whole(alloc, curve.heading, "The speed-up of ", WIDTH, y, &text)
 }
 
@@ -125,29 +125,29 @@ fn told(points: &[CurvePoint]) -> &[CurvePoint] {
 }
 
 // Appends what the curve is of to a text.
-fn put_words_above(text: &mut Vec<u8>, curve: &DrawnCurve<'_>, y: u64) -> Result<(), AllocError> {
-    open_words(text, "h", Point { x: 1_000, y })?;
-    put(text, "Speed-up by workers: work ")?;
-    put_number(text, curve.work)?;
-    put(text, ", span ")?;
-    put_number(text, curve.span)?;
-    put(text, "</text>\n")
+fn put_words_above(text: &mut Written, curve: &DrawnCurve<'_>, y: u64) {
+    open_words(text, "h", Point { x: 1_000, y });
+    text.put("Speed-up by workers: work ");
+    text.put_number(curve.work);
+    text.put(", span ");
+    text.put_number(curve.span);
+    text.put("</text>\n");
 }
 
 // Appends the frame, the numbers of workers below it, and the speed-ups next to it to a text.
-fn put_scales(text: &mut Vec<u8>, plot: Plot, most: u64) -> Result<(), AllocError> {
+fn put_scales(text: &mut Written, plot: Plot, most: u64) {
     let top = plot.foot.saturating_sub(HIGH);
-    put(text, "<path class=\"frame\" d=\"M")?;
-    put_length(text, LEFT)?;
-    text.push(b' ')?;
-    put_length(text, top)?;
-    text.push(b'V')?;
-    put_length(text, plot.foot)?;
-    text.push(b'H')?;
-    put_length(text, WIDTH - RIGHT)?;
-    put(text, "\"/>\n")?;
-    put_numbers(text, plot)?;
-    put_levels(text, plot, most)?;
+    text.put("<path class=\"frame\" d=\"M");
+    put_length(text, LEFT);
+    text.push(b' ');
+    put_length(text, top);
+    text.push(b'V');
+    put_length(text, plot.foot);
+    text.push(b'H');
+    put_length(text, WIDTH - RIGHT);
+    text.put("\"/>\n");
+    put_numbers(text, plot);
+    put_levels(text, plot, most);
     let y = top.saturating_sub(800);
     put_words(
         text,
@@ -155,14 +155,14 @@ fn put_scales(text: &mut Vec<u8>, plot: Plot, most: u64) -> Result<(), AllocErro
         Point { x: 1_000, y },
         b"times faster than one",
         40,
-    )?;
+    );
     let y = plot.foot.saturating_add(3_800);
     let x = WIDTH / 2;
-    put_words(text, "s m", Point { x, y }, b"workers", 40)
+    put_words(text, "s m", Point { x, y }, b"workers", 40);
 }
 
 // Appends the numbers of workers to a text.
-fn put_numbers(text: &mut Vec<u8>, plot: Plot) -> Result<(), AllocError> {
+fn put_numbers(text: &mut Written, plot: Plot) {
     let step = plot.across.step(16);
     for number in 1..=plot.across.end / step.max(1) {
         let workers = number.saturating_mul(step);
@@ -170,134 +170,119 @@ fn put_numbers(text: &mut Vec<u8>, plot: Plot) -> Result<(), AllocError> {
             x: plot.across.at(workers),
             y: plot.foot.saturating_add(1_800),
         };
-        open_words(text, "s m", at)?;
-        put_number(text, workers)?;
-        put(text, "</text>\n")?;
+        open_words(text, "s m", at);
+        text.put_number(workers);
+        text.put("</text>\n");
     }
-    Ok(())
 }
 
 // Appends the lines of the speed-ups to a text, each with its number.
-fn put_levels(text: &mut Vec<u8>, plot: Plot, most: u64) -> Result<(), AllocError> {
+fn put_levels(text: &mut Written, plot: Plot, most: u64) {
     let whole = Axis {
         end: plot.up.end / 100,
         ..plot.up
     };
     let step = whole.step(10);
-    put(text, "<g class=\"axis\">\n")?;
+    text.put("<g class=\"axis\">\n");
     for number in 0..=most / step.saturating_mul(100).max(1) {
         let times = number.saturating_mul(step);
         let y = plot.y(times.saturating_mul(100));
-        put(text, "<path d=\"")?;
-        put_across(text, y, LEFT, WIDTH - RIGHT)?;
-        put(text, "\"/>")?;
+        text.put("<path d=\"");
+        put_across(text, y, LEFT, WIDTH - RIGHT);
+        text.put("\"/>");
         let at = Point {
             x: LEFT - 1_800,
             y: y.saturating_add(400),
         };
-        open_words(text, "s", at)?;
-        put_number(text, times)?;
-        put(text, "</text>\n")?;
+        open_words(text, "s", at);
+        text.put_number(times);
+        text.put("</text>\n");
     }
-    put(text, "</g>\n")
+    text.put("</g>\n");
 }
 
 // Appends what no plan gets above to a text: as many times as there are workers, up to work / span, and that.
-fn put_roofs(text: &mut Vec<u8>, plot: Plot, curve: &DrawnCurve<'_>) -> Result<(), AllocError> {
+fn put_roofs(text: &mut Written, plot: Plot, curve: &DrawnCurve<'_>) {
     let parallelism = speed_up(curve.work, curve.span);
     let workers = plot.across.end.saturating_mul(100);
     let end = parallelism.min(workers);
-    put(text, "<polyline class=\"linear\" points=\"")?;
-    put_point(text, plot.across.at(0), plot.y(0))?;
+    text.put("<polyline class=\"linear\" points=\"");
+    put_point(text, plot.across.at(0), plot.y(0));
     let length = plot.across.length;
     let x = LEFT.saturating_add(end.saturating_mul(length) / workers.max(1));
-    put_point(text, x, plot.y(end))?;
-    put(
-        text,
-        "\"><title>as many times faster as there are workers</title></polyline>\n",
-    )?;
+    put_point(text, x, plot.y(end));
+    text.put("\"><title>as many times faster as there are workers</title></polyline>\n");
     let at = Point {
         x: WIDTH - RIGHT,
         y: plot.y(end).saturating_sub(600),
     };
-    open_words(text, "s e", at)?;
-    put(text, "parallelism ")?;
-    put_hundredths(text, parallelism)?;
+    open_words(text, "s e", at);
+    text.put("parallelism ");
+    put_hundredths(text, parallelism);
     if parallelism > workers {
-        return put(text, ", above</text>\n");
+        text.put(", above</text>\n");
+        return;
     }
-    put(text, "</text>\n<path class=\"roof\" d=\"")?;
-    put_across(text, plot.y(end), LEFT, WIDTH - RIGHT)?;
-    put(text, "\"/>\n")
+    text.put("</text>\n<path class=\"roof\" d=\"");
+    put_across(text, plot.y(end), LEFT, WIDTH - RIGHT);
+    text.put("\"/>\n");
 }
 
 // Appends two places to a text.
-fn put_point(text: &mut Vec<u8>, x: u64, y: u64) -> Result<(), AllocError> {
-    put_length(text, x)?;
-    text.push(b',')?;
-    put_length(text, y)?;
-    text.push(b' ')?;
-    Ok(())
+fn put_point(text: &mut Written, x: u64, y: u64) {
+    put_length(text, x);
+    text.push(b',');
+    put_length(text, y);
+    text.push(b' ');
 }
 
 // Appends the line through all points of a kind to a text.
-fn put_curve(
-    text: &mut Vec<u8>,
-    plot: Plot,
-    work: u64,
-    points: &[CurvePoint],
-    end: End,
-) -> Result<(), AllocError> {
-    put(text, "<polyline class=\"")?;
-    put(text, end.class())?;
-    put(text, "\" points=\"")?;
+fn put_curve(text: &mut Written, plot: Plot, work: u64, points: &[CurvePoint], end: End) {
+    text.put("<polyline class=\"");
+    text.put(end.class());
+    text.put("\" points=\"");
     for point in points {
         put_point(
             text,
             plot.x(point.workers),
             plot.y(speed_up(work, end.of(point))),
-        )?;
+        );
     }
-    put(text, "\"/>\n")
+    text.put("\"/>\n");
 }
 
 // Appends a dot for each greedy plan to a text, with what a mouse shows.
-fn put_dots(
-    text: &mut Vec<u8>,
-    plot: Plot,
-    work: u64,
-    points: &[CurvePoint],
-) -> Result<(), AllocError> {
-    put(text, "<g class=\"dots\">\n")?;
+fn put_dots(text: &mut Written, plot: Plot, work: u64, points: &[CurvePoint]) {
+    text.put("<g class=\"dots\">\n");
     for point in points {
-        put(text, "<circle r=\"3\" cx=\"")?;
-        put_length(text, plot.x(point.workers))?;
-        put(text, "\" cy=\"")?;
-        put_length(text, plot.y(speed_up(work, point.end)))?;
-        put(text, "\"><title>")?;
-        put_told(text, work, point)?;
-        put(text, "</title></circle>\n")?;
+        text.put("<circle r=\"3\" cx=\"");
+        put_length(text, plot.x(point.workers));
+        text.put("\" cy=\"");
+        put_length(text, plot.y(speed_up(work, point.end)));
+        text.put("\"><title>");
+        put_told(text, work, point);
+        text.put("</title></circle>\n");
     }
-    put(text, "</g>\n")
+    text.put("</g>\n");
 }
 
 // Appends what a mouse shows at a point to a text.
-fn put_told(text: &mut Vec<u8>, work: u64, point: &CurvePoint) -> Result<(), AllocError> {
-    put(text, "workers ")?;
-    put_number(text, u64::from(point.workers))?;
-    put(text, ": end ")?;
-    put_number(text, point.end)?;
-    put(text, ", no plan of this run before ")?;
-    put_number(text, point.low)?;
-    put(text, ", bound ")?;
-    put_number(text, point.bound)?;
-    put(text, "; ")?;
-    put_hundredths(text, speed_up(work, point.end))?;
-    put(text, " times faster than one")
+fn put_told(text: &mut Written, work: u64, point: &CurvePoint) {
+    text.put("workers ");
+    text.put_number(u64::from(point.workers));
+    text.put(": end ");
+    text.put_number(point.end);
+    text.put(", no plan of this run before ");
+    text.put_number(point.low);
+    text.put(", bound ");
+    text.put_number(point.bound);
+    text.put("; ");
+    put_hundredths(text, speed_up(work, point.end));
+    text.put(" times faster than one");
 }
 
 // Appends what the lines are to a text, and returns where that ends.
-fn put_key(text: &mut Vec<u8>, top: u64) -> Result<u64, AllocError> {
+fn put_key(text: &mut Written, top: u64) -> u64 {
     let signs: [(&str, &[u8]); 5] = [
         ("greedy", b"the greedy plan"),
         ("least", b"no faster plan of this run"),
@@ -311,13 +296,13 @@ fn put_key(text: &mut Vec<u8>, top: u64) -> Result<u64, AllocError> {
             y = y.saturating_add(2_400);
         }
         let x = if number % 2 == 0 { 1_000 } else { 37_000 };
-        put(text, "<path class=\"")?;
-        put(text, class)?;
-        put(text, "\" d=\"")?;
-        put_across(text, y.saturating_sub(400), x, x.saturating_add(3_000))?;
-        put(text, "\"/>\n")?;
+        text.put("<path class=\"");
+        text.put(class);
+        text.put("\" d=\"");
+        put_across(text, y.saturating_sub(400), x, x.saturating_add(3_000));
+        text.put("\"/>\n");
         let x = x.saturating_add(3_800);
-        put_words(text, "s", Point { x, y }, words, 40)?;
+        put_words(text, "s", Point { x, y }, words, 40);
     }
-    Ok(y.saturating_add(1_400))
+    y.saturating_add(1_400)
 }

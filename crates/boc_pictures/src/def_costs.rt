@@ -1,10 +1,10 @@
 // What the rows of each def take.
 
-use crate::html::{put, put_percent};
+use crate::html::put_percent;
 use crate::page::Page;
 use crate::subject::Subject;
+use crate::written::Written;
 use boc_page::Defs;
-use boc_text::put_number;
 use std::alloc::{AllocError, Global};
 
 /// What the rows of a def take. All but rows are ticks.
@@ -37,15 +37,11 @@ pub(crate) fn costs_of(
 }
 
 /// Appends the number of a def's rows, and its part of work and chain, to a text.
-pub(crate) fn put_costs(
-    text: &mut Vec<u8>,
-    page: &Page<'_>,
-    costs: DefCosts,
-) -> Result<(), AllocError> {
-    put_number(text, costs.rows)?;
-    put(text, if costs.rows == 1 { " row, " } else { " rows, " })?;
-    put_percent(text, costs.ticks, page.subject.work)?;
-    put(text, " of work, ")?;
-    put_percent(text, costs.chain, page.subject.span)?;
-    put(text, " of chain")
+pub(crate) fn put_costs(text: &mut Written, page: &Page<'_>, costs: DefCosts) {
+    text.put_number(costs.rows);
+    text.put(if costs.rows == 1 { " row, " } else { " rows, " });
+    put_percent(text, costs.ticks, page.subject.work);
+    text.put(" of work, ");
+    put_percent(text, costs.chain, page.subject.span);
+    text.put(" of chain");
 }

@@ -2,7 +2,7 @@
 
 use crate::axis::put_length;
 use crate::fitting::{letters_in, put_fit};
-use crate::html::put;
+use crate::written::Written;
 use std::alloc::{AllocError, Global};
 
 // The colours of drawings: a text has a contrast of 4.5 to 1, and a bar of 3 to 1, on white and on dark paper. A drawing that is shown narrow has larger
@@ -89,67 +89,53 @@ pub(crate) struct Point {
 }
 
 /// Appends the begin of a text of a class at a place to another one.
-pub(crate) fn open_words(text: &mut Vec<u8>, class: &str, at: Point) -> Result<(), AllocError> {
-    put(text, "<text class=\"")?;
-    put(text, class)?;
-    put(text, "\" x=\"")?;
-    put_length(text, at.x)?;
-    put(text, "\" y=\"")?;
-    put_length(text, at.y)?;
-    put(text, "\">")
+pub(crate) fn open_words(text: &mut Written, class: &str, at: Point) {
+    text.put("<text class=\"");
+    text.put(class);
+    text.put("\" x=\"");
+    put_length(text, at.x);
+    text.put("\" y=\"");
+    put_length(text, at.y);
+    text.put("\">");
 }
 
 /// Appends a text of a class at a place to another one, at most this many letters of it.
-pub(crate) fn put_words(
-    text: &mut Vec<u8>,
-    class: &str,
-    at: Point,
-    words: &[u8],
-    most: usize,
-) -> Result<(), AllocError> {
-    open_words(text, class, at)?;
-    put_fit(text, words, most)?;
-    put(text, "</text>\n")
+pub(crate) fn put_words(text: &mut Written, class: &str, at: Point, words: &[u8], most: usize) {
+    open_words(text, class, at);
+    put_fit(text, words, most);
+    text.put("</text>\n");
 }
 
 /// Appends the label of a lane to a text: where it is long, a shorter one for a narrow drawing too.
-pub(crate) fn put_label(text: &mut Vec<u8>, at: Point, words: &[u8]) -> Result<(), AllocError> {
+pub(crate) fn put_label(text: &mut Written, at: Point, words: &[u8]) {
     if letters_in(words) <= NARROW_LETTERS {
-        return put_words(text, "n", at, words, NARROW_LETTERS);
+        put_words(text, "n", at, words, NARROW_LETTERS);
+    } else {
+        put_words(text, "n wide", at, words, LABEL_LETTERS);
+        put_words(text, "n narrow", at, words, NARROW_LETTERS);
     }
-    put_words(text, "n wide", at, words, LABEL_LETTERS)?;
-    put_words(text, "n narrow", at, words, NARROW_LETTERS)
 }
 
 // Appends a width and a height to a text, with a blank between them.
-fn put_size(text: &mut Vec<u8>, width: u64, height: u64) -> Result<(), AllocError> {
-    put_length(text, width)?;
-    text.push(b' ')?;
-    put_length(text, height)
+fn put_size(text: &mut Written, width: u64, height: u64) {
+    put_length(text, width);
+    text.push(b' ');
+    put_length(text, height);
 }
 
 // Appends the begin of a drawing to a text.
-fn open(
-    text: &mut Vec<u8>,
-    heading: Heading<'_>,
-    what: &str,
-    width: u64,
-    height: u64,
-) -> Result<(), AllocError> {
-    put(
-        text,
-        "<svg xmlns=\"http://www.w3.org/2000/svg\" width=\"100%\" viewBox=\"0 0 ",
-    )?;
-    put_size(text, width, height)?;
-    put(text, "\" role=\"img\" aria-label=\"")?;
-    put(text, what)?;
-    put_fit(text, heading.title, TITLE_LETTERS)?;
+fn open(text: &mut Written, heading: Heading<'_>, what: &str, width: u64, height: u64) {
+    text.put("<svg xmlns=\"http://www.w3.org/2000/svg\" width=\"100%\" viewBox=\"0 0 ");
+    put_size(text, width, height);
+    text.put("\" role=\"img\" aria-label=\"");
+    text.put(what);
+    put_fit(text, heading.title, TITLE_LETTERS);
     if !heading.run.is_empty() {
-        put(text, ", ")?;
-        put_fit(text, heading.run, TITLE_LETTERS)?;
+        text.put(", ");
+        put_fit(text, heading.run, TITLE_LETTERS);
     }
-    put(text, "\">\n")?;
-    put(text, STYLE)
+    text.put("\">\n");
+    text.put(STYLE);
 }
 
 /// Returns a drawing of this width and height, which has these parts.
@@ -159,17 +145,17 @@ pub(crate) fn whole(
     what: &str,
     width: u64,
     height: u64,
-    parts: &[u8],
+    parts: &Written,
 ) -> Result<Vec<u8>, AllocError> {
-    let mut text = Vec::new(alloc);
-    open(&mut text, heading, what, width, height)?;
-    text.extend_from_slice(parts)?;
-    put(&mut text, "</svg>\n")?;
-    Ok(text)
+    let mut text = Written::new(alloc);
+    open(&mut text, heading, what, width, height);
+    text.put_all(parts);
+    text.put("</svg>\n");
+    text.into_text()
 }
 
 /// Appends the title of a drawing to a text, and returns where it ends.
-pub(crate) fn put_heading(text: &mut Vec<u8>, heading: Heading<'_>) -> Result<u64, AllocError> {
+pub(crate) fn put_heading(text: &mut Written, heading: Heading<'_>) -> u64 {
     let x = 1_000;
     put_words(
         text,
@@ -177,10 +163,10 @@ pub(crate) fn put_heading(text: &mut Vec<u8>, heading: Heading<'_>) -> Result<u6
         Point { x, y: 2_600 },
         heading.title,
         TITLE_LETTERS,
-    )?;
+    );
     if heading.run.is_empty() {
-        return Ok(3_400);
+        return 3_400;
     }
-    put_words(text, "s", Point { x, y: 5_000 }, heading.run, TITLE_LETTERS)?;
-    Ok(5_800)
+    put_words(text, "s", Point { x, y: 5_000 }, heading.run, TITLE_LETTERS);
+    5_800
 }

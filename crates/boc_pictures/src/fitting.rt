@@ -1,7 +1,7 @@
 // Texts that have a given room. All that comes from outside is escaped.
 
-use crate::html::{put, put_byte};
-use std::alloc::AllocError;
+use crate::html::put_byte;
+use crate::written::Written;
 
 // Returns whether a byte begins a letter: it is no later byte of one in UTF-8.
 fn begins_letter(byte: u8) -> bool {
@@ -37,32 +37,32 @@ fn is_hidden_at(bytes: &[u8], place: usize) -> bool {
 }
 
 // Appends the first letters of a text to another one.
-fn put_letters(text: &mut Vec<u8>, bytes: &[u8], most: usize) -> Result<(), AllocError> {
+fn put_letters(text: &mut Written, bytes: &[u8], most: usize) {
     let mut left = most;
     let mut is_hidden = false;
     for (place, byte) in bytes.iter().enumerate() {
         if begins_letter(*byte) {
             if left == 0 {
-                return Ok(());
+                return;
             }
             left -= 1;
             is_hidden = is_hidden_at(bytes, place);
             if is_hidden {
-                text.push(b'?')?;
+                text.push(b'?');
             }
         }
         if !is_hidden {
-            put_byte(text, *byte)?;
+            put_byte(text, *byte);
         }
     }
-    Ok(())
 }
 
 /// Appends a text to another one, at most this many letters of it: an ellipsis is the last of them where some are left out.
-pub(crate) fn put_fit(text: &mut Vec<u8>, bytes: &[u8], most: usize) -> Result<(), AllocError> {
+pub(crate) fn put_fit(text: &mut Written, bytes: &[u8], most: usize) {
     if letters_in(bytes) <= most {
-        return put_letters(text, bytes, most);
+        put_letters(text, bytes, most);
+    } else {
+        put_letters(text, bytes, most.saturating_sub(1));
+        text.put("…");
     }
-    put_letters(text, bytes, most.saturating_sub(1))?;
-    put(text, "…")
 }

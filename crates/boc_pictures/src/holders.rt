@@ -1,10 +1,10 @@
 // Who holds what, in text.
 
-use crate::columns::{Columns, percent, put_folded, put_line, put_padded};
+use crate::columns::{Columns, put_busy, put_folded, put_label, put_line};
 use crate::letters::{letters, mark_of, put_key};
 use crate::plan_lines::MOST_LINES;
-use crate::spelling::Spelling;
 use crate::subject::{Shown, Subject};
+use crate::written::Written;
 use boc_names::text_at;
 use std::alloc::{AllocError, Global};
 use std::cmp::Reverse;
@@ -23,7 +23,7 @@ pub(crate) struct Held {
 
 /// Returns which rows hold each cown in the earliest plan, in the given number of columns: a letter for each def, and what part of the span the cown is held.
 /// Of more than 60 cowns those are here that are held longest.
-pub fn cowns_text(alloc: Global, subject: &Subject, width: usize) -> Result<String, AllocError> {
+pub fn cowns_text(alloc: Global, subject: &Subject, width: usize) -> Result<Vec<u8>, AllocError> {
     let mut held = held_of(alloc, subject)?;
     let all = held.len();
     held.sort_unstable_by_key(|held| (Reverse(held.ticks), held.cown));
@@ -37,18 +37,20 @@ pub fn cowns_text(alloc: Global, subject: &Subject, width: usize) -> Result<Stri
             .saturating_sub(label.saturating_add(9))
             .max(LEAST_BARS),
     );
-    let mut head = format!(in alloc; "who holds what: ")?;
-    columns.put_scale(&mut head)?;
-    put_key(alloc, &mut head, subject, &letters, width)?;
-    let mut text = String::new(alloc);
-    put_folded(&mut text, head.as_str(), width)?;
+    let mut head = Written::new(alloc);
+    head.put("who holds what: ");
+    columns.put_scale(&mut head);
+    put_key(&mut head, subject, &letters, width);
+    let mut text = Written::new(alloc);
+    put_folded(&mut text, &head.into_text()?, width);
     for held in &held {
         put_cown(alloc, &mut text, subject, *held, &letters, columns, label)?;
     }
     if all > held.len() {
-        writeln!(text, "{} more cowns are held no longer", all - held.len())?;
+        text.put_number((all - held.len()) as u64);
+        text.put(" more cowns are held no longer\n");
     }
-    Ok(text)
+    text.into_text()
 }
 
 // When a cown is held, of the rows so far.
@@ -111,7 +113,7 @@ fn label_width(subject: &Subject, held: &[Held]) -> usize {
 // Puts the line of a cown.
 fn put_cown(
     alloc: Global,
-    text: &mut String,
+    text: &mut Written,
     subject: &Subject,
     held: Held,
     letters: &[u8],
@@ -129,9 +131,8 @@ fn put_cown(
             columns.paint(&mut line, row.start, row.end, letter);
         }
     }
-    let name = Spelling::Text.of(alloc, text_at(&subject.names.cowns, held.cown), label)?;
-    put_padded(text, name.as_str(), label)?;
-    text.push(' ')?;
-    put_line(text, &line)?;
-    writeln!(text, " {:>3}%", percent(held.ticks, subject.span))
+    put_label(text, text_at(&subject.names.cowns, held.cown), label);
+    put_line(text, &line);
+    put_busy(text, held.ticks, subject.span);
+    Ok(())
 }

@@ -2,9 +2,9 @@
 
 use crate::axis::{Area, put_across, put_down};
 use crate::drawing::{Point, put_words};
-use crate::html::put;
 use crate::plan_svg::{Drawn, has_rows};
 use crate::sheet::{MARGIN, STRIP, Sheet};
+use crate::written::Written;
 use std::alloc::{AllocError, Global};
 
 // How many signs are in a line, how far they are from each other, and how far the lines.
@@ -60,12 +60,7 @@ fn signs_of(alloc: Global, sheet: Sheet<'_>, drawn: &Drawn<'_>) -> Result<Vec<Si
 }
 
 // Appends the shape of a sign to a text.
-fn put_shape(
-    text: &mut Vec<u8>,
-    sheet: Sheet<'_>,
-    sign: Sign,
-    at: Point,
-) -> Result<(), AllocError> {
+fn put_shape(text: &mut Written, sheet: Sheet<'_>, sign: Sign, at: Point) {
     let Point { x, y } = at;
     let area = Area {
         x,
@@ -74,29 +69,41 @@ fn put_shape(
         height: 1_200,
     };
     match sign {
-        Sign::Def(place) => return sheet.put_area(text, place, area),
-        Sign::OtherDefs => return put_filled(text, "rest", area),
-        Sign::Height | Sign::Queue => return put_stairs(text, area),
+        Sign::Def(place) => sheet.put_area(text, place, area),
+        Sign::OtherDefs => put_filled(text, "rest", area),
+        Sign::Height | Sign::Queue => put_stairs(text, area),
         Sign::Chain => {
             let y = area.y.saturating_add(area.height).saturating_sub(STRIP);
             let height = STRIP;
-            return put_filled(text, "chain", Area { y, height, ..area });
+            put_filled(text, "chain", Area { y, height, ..area });
         }
-        Sign::Waits => put(text, "<path class=\"waits\" d=\"")?,
-        Sign::Spawns => put(text, "<path class=\"spawns\" d=\"")?,
-        Sign::End => put(text, "<path class=\"end\" d=\"")?,
+        Sign::Waits | Sign::Spawns | Sign::End => put_stroke(text, sign, area),
     }
+}
+
+// Appends the shape of a sign that is a line, in an area, to a text.
+fn put_stroke(text: &mut Written, sign: Sign, area: Area) {
+    let Area { x, y, .. } = area;
     let middle = x.saturating_add(700);
     match sign {
-        Sign::Waits => put_across(text, y.saturating_sub(400), x, x.saturating_add(1_400))?,
-        Sign::Spawns => put_down(text, middle, area.y, area.y.saturating_add(500))?,
-        _ => put_down(text, middle, area.y, area.y.saturating_add(1_400))?,
+        Sign::Waits => {
+            text.put("<path class=\"waits\" d=\"");
+            put_across(text, y.saturating_add(600), x, x.saturating_add(1_400));
+        }
+        Sign::Spawns => {
+            text.put("<path class=\"spawns\" d=\"");
+            put_down(text, middle, y, y.saturating_add(500));
+        }
+        _ => {
+            text.put("<path class=\"end\" d=\"");
+            put_down(text, middle, y, y.saturating_add(1_400));
+        }
     }
-    put(text, "\"/>\n")
+    text.put("\"/>\n");
 }
 
 // Appends two steps to a text.
-fn put_stairs(text: &mut Vec<u8>, area: Area) -> Result<(), AllocError> {
+fn put_stairs(text: &mut Written, area: Area) {
     let (width, height) = (area.width / 2, area.height / 2);
     let lower = Area {
         y: area.y.saturating_add(height),
@@ -104,18 +111,18 @@ fn put_stairs(text: &mut Vec<u8>, area: Area) -> Result<(), AllocError> {
         height,
         ..area
     };
-    put_filled(text, "queue", lower)?;
+    put_filled(text, "queue", lower);
     let x = area.x.saturating_add(width);
-    put_filled(text, "queue", Area { x, width, ..area })
+    put_filled(text, "queue", Area { x, width, ..area });
 }
 
 // Appends a rectangle of a class to a text.
-fn put_filled(text: &mut Vec<u8>, class: &str, area: Area) -> Result<(), AllocError> {
-    put(text, "<path class=\"")?;
-    put(text, class)?;
-    put(text, "\" d=\"")?;
-    area.put(text)?;
-    put(text, "\"/>\n")
+fn put_filled(text: &mut Written, class: &str, area: Area) {
+    text.put("<path class=\"");
+    text.put(class);
+    text.put("\" d=\"");
+    area.put(text);
+    text.put("\"/>\n");
 }
 
 // Returns what a sign means.
@@ -135,7 +142,7 @@ fn meaning<'a>(sheet: Sheet<'a>, sign: Sign) -> &'a [u8] {
 /// Appends the legend to a text, and returns where it ends.
 pub(crate) fn put_legend(
     alloc: Global,
-    text: &mut Vec<u8>,
+    text: &mut Written,
     sheet: Sheet<'_>,
     drawn: &Drawn<'_>,
     top: u64,
@@ -148,9 +155,9 @@ pub(crate) fn put_legend(
         let x = COLUMN
             .saturating_mul((number % ACROSS) as u64)
             .saturating_add(MARGIN);
-        put_shape(text, sheet, *sign, Point { x, y })?;
+        put_shape(text, sheet, *sign, Point { x, y });
         let x = x.saturating_add(2_000);
-        put_words(text, "n", Point { x, y }, meaning(sheet, *sign), 17)?;
+        put_words(text, "n", Point { x, y }, meaning(sheet, *sign), 17);
     }
     Ok(y.saturating_add(1_400))
 }

@@ -3,6 +3,7 @@
 use crate::columns::longest_word;
 use crate::spelling::Spelling;
 use crate::subject::Subject;
+use crate::written::Written;
 use std::alloc::{AllocError, Global};
 
 // The letters and digits that stand for defs whose own are taken.
@@ -63,24 +64,19 @@ pub(crate) fn mark_of(letters: &[u8], subject: &Subject, row: u32) -> u8 {
 }
 
 /// Puts what marks stand for, each name so that it fits into a line of the given number of columns.
-pub(crate) fn put_key(
-    alloc: Global,
-    text: &mut String,
-    subject: &Subject,
-    letters: &[u8],
-    width: usize,
-) -> Result<(), AllocError> {
+pub(crate) fn put_key(text: &mut Written, subject: &Subject, letters: &[u8], width: usize) {
     if letters.is_empty() {
-        return text.push_str("; # on the chain, = other rows");
+        text.put("; # on the chain, = other rows");
+        return;
     }
     // A comma follows it.
     let most = longest_word(width).saturating_sub(1).min(MOST_NAME);
     let mut first = true;
     for (letter, name) in letters.iter().zip(&subject.names.def_names) {
-        let name = Spelling::Text.of(alloc, name, most)?;
-        text.push_str(if first { "; " } else { ", " })?;
-        write!(text, "{} {name}", char::from(*letter))?;
+        text.put(if first { "; " } else { ", " });
+        text.push(*letter);
+        text.push(b' ');
+        Spelling::Text.put(text, name, most);
         first = false;
     }
-    Ok(())
 }

@@ -35,6 +35,7 @@ mod subject;
 mod trace;
 mod worker_lines;
 mod worker_plan;
+mod written;
 
 pub use curve_lines::curve_text;
 pub use curve_svg::{DrawnCurve, curve_drawing};

@@ -1,7 +1,7 @@
 // A page with all pictures of a run.
 
 use crate::def_costs::costs_of;
-use crate::html::{put, put_html, put_lines};
+use crate::html::{put_html, put_lines};
 use crate::page_answer::{Sentences, put_answer};
 use crate::page_curve::put_curve;
 use crate::page_frame::{
@@ -12,6 +12,7 @@ use crate::page_program::put_program;
 use crate::page_runs::{DrawnRuns, put_runs};
 use crate::page_tables::put_tables;
 use crate::subject::Subject;
+use crate::written::Written;
 use boc_cowns_report::JudgedCown;
 use boc_greedy::{CurvePoint, Greedy};
 use boc_page::{Defs, LineTicks};
@@ -62,60 +63,57 @@ impl Page<'_> {
 }
 
 // Appends the title of the window to a text.
-fn put_title(text: &mut Vec<u8>, page: &Page<'_>) -> Result<(), AllocError> {
-    put_html(text, page.title)?;
+fn put_title(text: &mut Written, page: &Page<'_>) {
+    put_html(text, page.title);
     if !page.run.is_empty() {
-        put(text, " · ")?;
-        put_html(text, page.run)?;
+        text.put(" · ");
+        put_html(text, page.run);
     }
-    put(text, " · boc")
+    text.put(" · boc");
 }
 
 // Appends the heading to a text: the file, how it was run, and what times are.
-fn put_heading(text: &mut Vec<u8>, page: &Page<'_>) -> Result<(), AllocError> {
-    put(text, "<div><h1>")?;
-    put_html(text, page.title)?;
-    put(text, "</h1><p>")?;
+fn put_heading(text: &mut Written, page: &Page<'_>) {
+    text.put("<div><h1>");
+    put_html(text, page.title);
+    text.put("</h1><p>");
     if !page.run.is_empty() {
-        put(text, "<bdi>")?;
-        put_html(text, page.run)?;
-        put(text, "</bdi>")?;
+        text.put("<bdi>");
+        put_html(text, page.run);
+        text.put("</bdi>");
     } else if page.program.is_empty() {
-        put(text, "the record of a run")?;
+        text.put("the record of a run");
     } else {
-        put(text, "run on one thread")?;
+        text.put("run on one thread");
     }
     if page.subject.sharing == Sharing::SharedReads {
-        put(text, " · rows that only read share cowns")?;
+        text.put(" · rows that only read share cowns");
     }
-    put(
-        text,
-        " · times are ticks, which are counted and not measured</p></div>",
-    )
+    text.put(" · times are ticks, which are counted and not measured</p></div>");
 }
 
 /// Returns a page that is self-contained, in HTML: the answer, tables and the curve, and the data block with the script that draws the plans.
 pub fn page_text(alloc: Global, page: &Page<'_>) -> Result<Vec<u8>, AllocError> {
     let costs = costs_of(alloc, page.subject, page.defs)?;
-    let mut text = Vec::new(alloc);
-    put(&mut text, BEFORE_TITLE)?;
-    put_title(&mut text, page)?;
-    put(&mut text, BEFORE_HEAD)?;
-    put_heading(&mut text, page)?;
-    put(&mut text, BEFORE_ANSWER)?;
+    let mut text = Written::new(alloc);
+    text.put(BEFORE_TITLE);
+    put_title(&mut text, page);
+    text.put(BEFORE_HEAD);
+    put_heading(&mut text, page);
+    text.put(BEFORE_ANSWER);
     put_answer(alloc, &mut text, page)?;
-    put(&mut text, BEFORE_RUNS)?;
-    put_runs(&mut text, page)?;
-    put(&mut text, BEFORE_PLAN)?;
-    put_lines(&mut text, page.plan)?;
-    put(&mut text, BEFORE_TABLES)?;
+    text.put(BEFORE_RUNS);
+    put_runs(&mut text, page);
+    text.put(BEFORE_PLAN);
+    put_lines(&mut text, page.plan);
+    text.put(BEFORE_TABLES);
     put_tables(alloc, &mut text, page, &costs)?;
-    put(&mut text, BEFORE_CURVE)?;
-    put_curve(&mut text, page)?;
-    put(&mut text, BEFORE_PROGRAM)?;
-    put_program(&mut text, page, &costs)?;
-    put(&mut text, BEFORE_DATA)?;
-    text.extend_from_slice(page.data)?;
-    put(&mut text, AFTER_DATA)?;
-    Ok(text)
+    text.put(BEFORE_CURVE);
+    put_curve(&mut text, page);
+    text.put(BEFORE_PROGRAM);
+    put_program(&mut text, page, &costs);
+    text.put(BEFORE_DATA);
+    text.put_bytes(page.data);
+    text.put(AFTER_DATA);
+    text.into_text()
 }

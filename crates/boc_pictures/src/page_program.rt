@@ -1,11 +1,10 @@
 // The text of the program on a page, with what the rows of each def take.
 
 use crate::def_costs::{DefCosts, put_costs};
-use crate::html::{put, put_grouped, put_html, put_percent};
+use crate::html::{put_grouped, put_html, put_percent};
 use crate::page::Page;
+use crate::written::Written;
 use boc_page::LineTicks;
-use boc_text::put_number;
-use std::alloc::AllocError;
 
 // The most bytes of a line of the program.
 const MOST_BYTES: usize = 400;
@@ -40,81 +39,61 @@ fn ticks_at(lines: &[LineTicks], line: usize) -> Option<LineTicks> {
 }
 
 // Appends the cells of the ticks of a line to a text.
-fn put_ticks(
-    text: &mut Vec<u8>,
-    page: &Page<'_>,
-    ticks: Option<LineTicks>,
-) -> Result<(), AllocError> {
-    put(text, "<td class=\"n\">")?;
+fn put_ticks(text: &mut Written, page: &Page<'_>, ticks: Option<LineTicks>) {
+    text.put("<td class=\"n\">");
     if let Some(own) = ticks {
-        put_grouped(text, own.ticks)?;
+        put_grouped(text, own.ticks);
     }
-    put(text, "</td><td class=\"n chain\">")?;
+    text.put("</td><td class=\"n chain\">");
     if let Some(own) = ticks {
-        put_percent(text, own.chain, page.subject.span)?;
+        put_percent(text, own.chain, page.subject.span);
     }
-    put(text, "</td>")
+    text.put("</td>");
 }
 
 // Appends a line of the program to a text.
-fn put_line(
-    text: &mut Vec<u8>,
-    page: &Page<'_>,
-    costs: &[DefCosts],
-    number: usize,
-    line: &[u8],
-) -> Result<(), AllocError> {
-    put(text, "<tr><td class=\"n\">")?;
-    put_number(text, number as u64)?;
-    put(text, "</td>")?;
+fn put_line(text: &mut Written, page: &Page<'_>, costs: &[DefCosts], number: usize, line: &[u8]) {
+    text.put("<tr><td class=\"n\">");
+    text.put_number(number as u64);
+    text.put("</td>");
     if !page.lines.is_empty() {
-        put_ticks(text, page, ticks_at(page.lines, number))?;
+        put_ticks(text, page, ticks_at(page.lines, number));
     }
-    put(text, "<td class=\"code\">")?;
-    put_html(text, &line[..line.len().min(MOST_BYTES)])?;
-    text.push(b' ')?;
+    text.put("<td class=\"code\">");
+    put_html(text, &line[..line.len().min(MOST_BYTES)]);
+    text.push(b' ');
     let name = def_named(line);
     if let Some(place) = page.place_of(name) {
-        put_def(text, page, costs, place)?;
+        put_def(text, page, costs, place);
     }
-    put(text, "</td></tr>\n")
+    text.put("</td></tr>\n");
 }
 
 // Appends what the rows of a def take to a text, where it has any.
-fn put_def(
-    text: &mut Vec<u8>,
-    page: &Page<'_>,
-    costs: &[DefCosts],
-    place: usize,
-) -> Result<(), AllocError> {
+fn put_def(text: &mut Written, page: &Page<'_>, costs: &[DefCosts], place: usize) {
     let own = match costs.get(place) {
         Some(own) if own.rows > 0 => *own,
-        _ => return Ok(()),
+        _ => return,
     };
-    put(text, "<small data-head=\"")?;
-    put_number(text, place as u64)?;
-    put(text, "\">")?;
-    put_costs(text, page, own)?;
-    put(text, "</small>")
+    text.put("<small data-head=\"");
+    text.put_number(place as u64);
+    text.put("\">");
+    put_costs(text, page, own);
+    text.put("</small>");
 }
 
 /// Appends the program to a text, where the run is of one.
-pub(crate) fn put_program(
-    text: &mut Vec<u8>,
-    page: &Page<'_>,
-    costs: &[DefCosts],
-) -> Result<(), AllocError> {
+pub(crate) fn put_program(text: &mut Written, page: &Page<'_>, costs: &[DefCosts]) {
     if page.program.is_empty() {
-        return Ok(());
+        return;
     }
-    put(text, "<h2>The program</h2>\n")?;
-    put(
-        text,
+    text.put("<h2>The program</h2>\n");
+    text.put(
         "<div class=\"wide source\" tabindex=\"0\" role=\"region\" aria-label=\"The program\"><table>\n<tbody>\n",
-    )?;
+    );
     let program = page.program.trim_ascii_end();
     for (place, line) in program.split(|byte| *byte == b'\n').enumerate() {
-        put_line(text, page, costs, place.saturating_add(1), line)?;
+        put_line(text, page, costs, place.saturating_add(1), line);
     }
-    put(text, "</tbody></table></div>\n")
+    text.put("</tbody></table></div>\n");
 }

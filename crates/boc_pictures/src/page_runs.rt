@@ -1,9 +1,9 @@
 // The runs of a page that seeds draw: how many of them have which number as a drawing, and what is said of them.
 
 use crate::axis::{Area, Axis, put_down, put_length};
-use crate::html::{put, put_grouped, put_html, put_lines, put_many};
+use crate::html::{put_grouped, put_html, put_lines, put_many};
 use crate::page::Page;
-use std::alloc::AllocError;
+use crate::written::Written;
 
 // The frame of the drawing, in hundredths of a pixel.
 const LEFT: u64 = 1_000;
@@ -121,106 +121,94 @@ fn anchor_at(x: u64) -> &'static str {
 }
 
 // Appends the begin of words at a place to a text, which are anchored so.
-fn open_words(text: &mut Vec<u8>, anchor: &str, x: u64, y: u64) -> Result<(), AllocError> {
-    put(text, "<text text-anchor=\"")?;
-    put(text, anchor)?;
-    put(text, "\" x=\"")?;
-    put_length(text, x)?;
-    put(text, "\" y=\"")?;
-    put_length(text, y)?;
-    put(text, "\">")
+fn open_words(text: &mut Written, anchor: &str, x: u64, y: u64) {
+    text.put("<text text-anchor=\"");
+    text.put(anchor);
+    text.put("\" x=\"");
+    put_length(text, x);
+    text.put("\" y=\"");
+    put_length(text, y);
+    text.put("\">");
 }
 
 // Appends words and a number at a place to a text.
-fn put_number_at(
-    text: &mut Vec<u8>,
-    anchor: &str,
-    x: u64,
-    y: u64,
-    words: &str,
-    number: u64,
-) -> Result<(), AllocError> {
-    open_words(text, anchor, x, y)?;
-    put(text, words)?;
-    put_grouped(text, number)?;
-    put(text, "</text>\n")
+fn put_number_at(text: &mut Written, anchor: &str, x: u64, y: u64, words: &str, number: u64) {
+    open_words(text, anchor, x, y);
+    text.put(words);
+    put_grouped(text, number);
+    text.put("</text>\n");
 }
 
 // Appends a bar to a text, with what a mouse shows.
-fn put_bar(text: &mut Vec<u8>, plot: Plot, word: &[u8], bar: RunsBar) -> Result<(), AllocError> {
-    put(text, "<path d=\"")?;
-    plot.area(bar).put(text)?;
-    put(text, "\"><title>")?;
-    put_html(text, word)?;
-    text.push(b' ')?;
-    put_grouped(text, bar.first)?;
+fn put_bar(text: &mut Written, plot: Plot, word: &[u8], bar: RunsBar) {
+    text.put("<path d=\"");
+    plot.area(bar).put(text);
+    text.put("\"><title>");
+    put_html(text, word);
+    text.push(b' ');
+    put_grouped(text, bar.first);
     if bar.first < bar.last {
-        put(text, " to ")?;
-        put_grouped(text, bar.last)?;
+        text.put(" to ");
+        put_grouped(text, bar.last);
     }
-    put(text, ": ")?;
-    put_many(text, bar.runs, "run")?;
-    put(text, "</title></path>\n")
+    text.put(": ");
+    put_many(text, bar.runs, "run");
+    text.put("</title></path>\n");
 }
 
 // Appends the bars to a text, where there are runs.
-fn put_bars(text: &mut Vec<u8>, plot: Plot, histogram: &Histogram<'_>) -> Result<(), AllocError> {
-    put(text, "<g style=\"fill:var(--blue)\">\n")?;
+fn put_bars(text: &mut Written, plot: Plot, histogram: &Histogram<'_>) {
+    text.put("<g style=\"fill:var(--blue)\">\n");
     for bar in histogram.bars {
         if bar.runs > 0 {
-            put_bar(text, plot, histogram.word, *bar)?;
+            put_bar(text, plot, histogram.word, *bar);
         }
     }
-    put(text, "</g>\n")
+    text.put("</g>\n");
 }
 
 // Appends how many runs each bar has to a text, above it.
-fn put_counts(text: &mut Vec<u8>, plot: Plot, bars: &[RunsBar]) -> Result<(), AllocError> {
+fn put_counts(text: &mut Written, plot: Plot, bars: &[RunsBar]) {
     for bar in bars {
         if bar.runs > 0 {
             let area = plot.area(*bar);
             let x = area.x.saturating_add(area.width / 2);
             let y = area.y.saturating_sub(500);
-            put_number_at(text, "middle", x, y, "", bar.runs)?;
+            put_number_at(text, "middle", x, y, "", bar.runs);
         }
     }
-    Ok(())
 }
 
 // Appends a line down to the foot of the bars to a text.
-fn put_mark(text: &mut Vec<u8>, style: &str, x: u64, top: u64) -> Result<(), AllocError> {
-    put(text, "<path style=\"fill:none;")?;
-    put(text, style)?;
-    put(text, "\" d=\"")?;
-    put_down(text, x, top, FOOT)?;
-    put(text, "\"/>\n")
+fn put_mark(text: &mut Written, style: &str, x: u64, top: u64) {
+    text.put("<path style=\"fill:none;");
+    text.put(style);
+    text.put("\" d=\"");
+    put_down(text, x, top, FOOT);
+    text.put("\"/>\n");
 }
 
 // Appends the line below the bars to a text, and the one of the median.
-fn put_lines_of(
-    text: &mut Vec<u8>,
-    plot: Plot,
-    histogram: &Histogram<'_>,
-) -> Result<(), AllocError> {
-    put(text, "<path style=\"fill:none;stroke:var(--waits)\" d=\"M")?;
-    put_length(text, LEFT)?;
-    text.push(b' ')?;
-    put_length(text, FOOT)?;
-    text.push(b'h')?;
-    put_length(text, LENGTH)?;
-    put(text, "\"/>\n")?;
+fn put_lines_of(text: &mut Written, plot: Plot, histogram: &Histogram<'_>) {
+    text.put("<path style=\"fill:none;stroke:var(--waits)\" d=\"M");
+    put_length(text, LEFT);
+    text.push(b' ');
+    put_length(text, FOOT);
+    text.push(b'h');
+    put_length(text, LENGTH);
+    text.put("\"/>\n");
     let style = "stroke:var(--ink);stroke-width:1.5;stroke-dasharray:4 3";
-    put_mark(text, style, plot.x(histogram.median), TOP)
+    put_mark(text, style, plot.x(histogram.median), TOP);
 }
 
 // Appends the least, the median and the most to a text, below the bars.
-fn put_spread(text: &mut Vec<u8>, plot: Plot, histogram: &Histogram<'_>) -> Result<(), AllocError> {
+fn put_spread(text: &mut Written, plot: Plot, histogram: &Histogram<'_>) {
     let y = FOOT + 1_600;
-    put_number_at(text, "start", LEFT, y, "least ", histogram.least)?;
-    put_number_at(text, "end", LEFT + LENGTH, y, "most ", histogram.most)?;
+    put_number_at(text, "start", LEFT, y, "least ", histogram.least);
+    put_number_at(text, "end", LEFT + LENGTH, y, "most ", histogram.most);
     let x = plot.x(histogram.median);
     let anchor = anchor_at(x);
-    put_number_at(text, anchor, x, FOOT + 3_400, "median ", histogram.median)
+    put_number_at(text, anchor, x, FOOT + 3_400, "median ", histogram.median);
 }
 
 // Returns whether the run that the page is of has a number within those of the others.
@@ -229,95 +217,82 @@ fn is_within(histogram: &Histogram<'_>) -> bool {
 }
 
 // Appends the run that the page is of to a text, with its number above the bars, where it has one within those of the others.
-fn put_own(text: &mut Vec<u8>, plot: Plot, histogram: &Histogram<'_>) -> Result<(), AllocError> {
+fn put_own(text: &mut Written, plot: Plot, histogram: &Histogram<'_>) {
     if !is_within(histogram) {
-        return Ok(());
+        return;
     }
     let x = plot.x(histogram.own);
-    put_mark(text, "stroke:var(--chain);stroke-width:2", x, 2_000)?;
-    put(text, "<g style=\"fill:var(--chain)\">\n")?;
-    put_number_at(text, anchor_at(x), x, 1_400, "this run ", histogram.own)?;
-    put(text, "</g>\n")
+    put_mark(text, "stroke:var(--chain);stroke-width:2", x, 2_000);
+    text.put("<g style=\"fill:var(--chain)\">\n");
+    put_number_at(text, anchor_at(x), x, 1_400, "this run ", histogram.own);
+    text.put("</g>\n");
 }
 
 // Appends the drawing to a text.
-fn put_drawing(
-    text: &mut Vec<u8>,
-    plot: Plot,
-    histogram: &Histogram<'_>,
-) -> Result<(), AllocError> {
-    put(
-        text,
+fn put_drawing(text: &mut Written, plot: Plot, histogram: &Histogram<'_>) {
+    text.put(
         "<figure style=\"max-width:760px\">\n<svg xmlns=\"http://www.w3.org/2000/svg\" viewBox=\"0 0 640 230\" role=\"img\" \
          style=\"font:12px system-ui,sans-serif\" aria-label=\"How many of these runs have which ",
-    )?;
-    put_html(text, histogram.word)?;
-    put(text, "; the text below has the numbers\">\n")?;
-    put_bars(text, plot, histogram)?;
-    put_lines_of(text, plot, histogram)?;
-    put_own(text, plot, histogram)?;
-    put(
-        text,
+    );
+    put_html(text, histogram.word);
+    text.put("; the text below has the numbers\">\n");
+    put_bars(text, plot, histogram);
+    put_lines_of(text, plot, histogram);
+    put_own(text, plot, histogram);
+    text.put(
         "<g style=\"fill:var(--ink);stroke:var(--paper);stroke-width:3px;paint-order:stroke\">\n",
-    )?;
-    put_counts(text, plot, histogram.bars)?;
-    put(text, "</g>\n<g style=\"fill:var(--soft)\">\n")?;
-    put_spread(text, plot, histogram)?;
-    put(text, "</g>\n</svg>\n</figure>\n")
+    );
+    put_counts(text, plot, histogram.bars);
+    text.put("</g>\n<g style=\"fill:var(--soft)\">\n");
+    put_spread(text, plot, histogram);
+    text.put("</g>\n</svg>\n</figure>\n");
 }
 
 // Appends to a text that the run of the page has a number less or more than all others, where it has.
-fn put_outside(text: &mut Vec<u8>, histogram: &Histogram<'_>) -> Result<(), AllocError> {
+fn put_outside(text: &mut Written, histogram: &Histogram<'_>) {
     if histogram.own < histogram.least {
-        put(text, ", less than any of these")
+        text.put(", less than any of these");
     } else if histogram.most < histogram.own {
-        put(text, ", more than any of these")
-    } else {
-        Ok(())
+        text.put(", more than any of these");
     }
 }
 
 // Appends the numbers in words to a text.
-fn put_words(text: &mut Vec<u8>, histogram: &Histogram<'_>) -> Result<(), AllocError> {
-    put(text, "<p>The ")?;
-    put_html(text, histogram.word)?;
-    put(text, " of these runs is ")?;
-    put_grouped(text, histogram.least)?;
-    put(text, " at least, ")?;
-    put_grouped(text, histogram.median)?;
-    put(text, " at the median, and ")?;
-    put_grouped(text, histogram.most)?;
-    put(text, " at most. That of the run of this page is ")?;
-    put_grouped(text, histogram.own)?;
-    put_outside(text, histogram)?;
-    put(text, ".</p>\n")
+fn put_words(text: &mut Written, histogram: &Histogram<'_>) {
+    text.put("<p>The ");
+    put_html(text, histogram.word);
+    text.put(" of these runs is ");
+    put_grouped(text, histogram.least);
+    text.put(" at least, ");
+    put_grouped(text, histogram.median);
+    text.put(" at the median, and ");
+    put_grouped(text, histogram.most);
+    text.put(" at most. That of the run of this page is ");
+    put_grouped(text, histogram.own);
+    put_outside(text, histogram);
+    text.put(".</p>\n");
 }
 
 // Appends the section of runs to a text.
-fn put_section(text: &mut Vec<u8>, drawn: &DrawnRuns<'_>) -> Result<(), AllocError> {
+fn put_section(text: &mut Written, drawn: &DrawnRuns<'_>) {
     let histogram = &drawn.histogram;
-    put(
-        text,
-        "\n<section id=\"runs\" aria-labelledby=\"runs-title\">\n<h2 id=\"runs-title\">",
-    )?;
-    put_many(text, drawn.runs, "run")?;
-    put(text, "</h2>\n")?;
-    put_words(text, histogram)?;
+    text.put("\n<section id=\"runs\" aria-labelledby=\"runs-title\">\n<h2 id=\"runs-title\">");
+    put_many(text, drawn.runs, "run");
+    text.put("</h2>\n");
+    put_words(text, histogram);
     if let Some(first) = histogram.bars.first() {
-        put_drawing(text, Plot::of(histogram.bars, *first), histogram)?;
+        put_drawing(text, Plot::of(histogram.bars, *first), histogram);
     }
-    put(
-        text,
+    text.put(
         "<pre class=\"wide\" tabindex=\"0\" role=\"region\" aria-label=\"What these runs say\">",
-    )?;
-    put_lines(text, drawn.text.trim_ascii_end())?;
-    put(text, "</pre>\n</section>")
+    );
+    put_lines(text, drawn.text.trim_ascii_end());
+    text.put("</pre>\n</section>");
 }
 
 /// Appends the runs that seeds draw to a text, where the page shows some.
-pub(crate) fn put_runs(text: &mut Vec<u8>, page: &Page<'_>) -> Result<(), AllocError> {
-    match &page.runs {
-        Some(drawn) => put_section(text, drawn),
-        None => Ok(()),
+pub(crate) fn put_runs(text: &mut Written, page: &Page<'_>) {
+    if let Some(drawn) = &page.runs {
+        put_section(text, drawn);
     }
 }

@@ -2,11 +2,11 @@
 
 use crate::def_costs::DefCosts;
 use crate::html::{
-    Head, Meter, close_table, open_table, put, put_cell, put_lines, put_many, put_named, put_part,
+    Head, Meter, close_table, open_table, put_cell, put_lines, put_many, put_named, put_part,
 };
 use crate::page::Page;
+use crate::written::Written;
 use boc_names::text_at;
-use boc_text::put_number;
 use std::alloc::{AllocError, Global};
 
 // The most defs that are listed, and the most lines of the chain.
@@ -54,46 +54,47 @@ fn defs_heads() -> [Head; 6] {
 /// Appends the tables to a text.
 pub(crate) fn put_tables(
     alloc: Global,
-    text: &mut Vec<u8>,
+    text: &mut Written,
     page: &Page<'_>,
     costs: &[DefCosts],
 ) -> Result<(), AllocError> {
-    put(text, "<div class=\"columns two\">\n")?;
-    put_cowns(text, page)?;
+    text.put("<div class=\"columns two\">\n");
+    put_cowns(text, page);
     put_defs(alloc, text, page, costs)?;
-    put(text, "</div>\n")?;
-    put_chain(text, page)
+    text.put("</div>\n");
+    put_chain(text, page);
+    Ok(())
 }
 
 // Appends the cowns to a text, in the order of `boc cowns -p`.
-fn put_cowns(text: &mut Vec<u8>, page: &Page<'_>) -> Result<(), AllocError> {
+fn put_cowns(text: &mut Written, page: &Page<'_>) {
     let subject = page.subject;
-    open_table(text, "Cowns", &cowns_heads())?;
+    open_table(text, "Cowns", &cowns_heads());
     for own in page.judged {
         let hot = own.hot;
-        put(text, "<tr>")?;
+        text.put("<tr>");
         put_named(
             text,
             "cown",
             u64::from(hot.cown),
             subject.cown_name(hot.cown),
-        )?;
-        put_cell(text, u64::from(hot.rows))?;
-        put_cell(text, u64::from(hot.wrote))?;
-        put_cell(text, hot.held)?;
-        put_part(text, hot.held, subject.span, Meter::Plain)?;
+        );
+        put_cell(text, u64::from(hot.rows));
+        put_cell(text, u64::from(hot.wrote));
+        put_cell(text, hot.held);
+        put_part(text, hot.held, subject.span, Meter::Plain);
         for ticks in [hot.waited, hot.chain, hot.without, own.end] {
-            put_cell(text, ticks)?;
+            put_cell(text, ticks);
         }
-        put(text, "</tr>\n")?;
+        text.put("</tr>\n");
     }
-    close_table(text)
+    close_table(text);
 }
 
 // Appends the defs to a text, the one with the most ticks first.
 fn put_defs(
     alloc: Global,
-    text: &mut Vec<u8>,
+    text: &mut Written,
     page: &Page<'_>,
     costs: &[DefCosts],
 ) -> Result<(), AllocError> {
@@ -104,51 +105,47 @@ fn put_defs(
         }
     }
     order.sort()?;
-    open_table(text, "Defs", &defs_heads())?;
+    open_table(text, "Defs", &defs_heads());
     for (_, place) in order.iter().take(MOST_DEFS) {
         if let Some(own) = costs.get(*place) {
-            put_def(text, page, *place, *own)?;
+            put_def(text, page, *place, *own);
         }
     }
-    close_table(text)?;
-    put_rest(text, order.len(), MOST_DEFS, "def")
+    close_table(text);
+    put_rest(text, order.len(), MOST_DEFS, "def");
+    Ok(())
 }
 
 // Appends the line of a def to a text.
-fn put_def(
-    text: &mut Vec<u8>,
-    page: &Page<'_>,
-    place: usize,
-    own: DefCosts,
-) -> Result<(), AllocError> {
+fn put_def(text: &mut Written, page: &Page<'_>, place: usize, own: DefCosts) {
     let name = text_at(&page.defs.names, place);
     let name = if name.is_empty() {
         b"(no name)".as_slice()
     } else {
         name
     };
-    put(text, "<tr>")?;
-    put_named(text, "def", place as u64, name)?;
-    put_cell(text, own.rows)?;
-    put_cell(text, own.ticks)?;
-    put_part(text, own.ticks, page.subject.work, Meter::Plain)?;
-    put_part(text, own.chain, page.subject.span, Meter::Chain)?;
-    put_cell(text, own.waited)?;
-    put(text, "</tr>\n")
+    text.put("<tr>");
+    put_named(text, "def", place as u64, name);
+    put_cell(text, own.rows);
+    put_cell(text, own.ticks);
+    put_part(text, own.ticks, page.subject.work, Meter::Plain);
+    put_part(text, own.chain, page.subject.span, Meter::Chain);
+    put_cell(text, own.waited);
+    text.put("</tr>\n");
 }
 
 // Appends to a text how many things a list leaves out.
-fn put_rest(text: &mut Vec<u8>, count: usize, most: usize, word: &str) -> Result<(), AllocError> {
+fn put_rest(text: &mut Written, count: usize, most: usize, word: &str) {
     if count <= most {
-        return Ok(());
+        return;
     }
-    put(text, "<p>and ")?;
-    put_many(text, (count - most) as u64, word)?;
-    put(text, " more</p>\n")
+    text.put("<p>and ");
+    put_many(text, (count - most) as u64, word);
+    text.put(" more</p>\n");
 }
 
 // Appends the chain to a text, as boc prints it.
-fn put_chain(text: &mut Vec<u8>, page: &Page<'_>) -> Result<(), AllocError> {
+fn put_chain(text: &mut Written, page: &Page<'_>) {
     let mut end = 0;
     let mut lines: usize = 0;
     for (place, byte) in page.chain.iter().enumerate() {
@@ -159,15 +156,12 @@ fn put_chain(text: &mut Vec<u8>, page: &Page<'_>) -> Result<(), AllocError> {
             }
         }
     }
-    put(
-        text,
-        "<details><summary>The chain, as boc why prints it</summary>\n<pre class=\"wide\">",
-    )?;
-    put_lines(text, &page.chain[..end.min(page.chain.len())])?;
+    text.put("<details><summary>The chain, as boc why prints it</summary>\n<pre class=\"wide\">");
+    put_lines(text, &page.chain[..end.min(page.chain.len())]);
     if lines > MOST_LINES {
-        put(text, ".. and ")?;
-        put_number(text, (lines - MOST_LINES) as u64)?;
-        put(text, " lines more\n")?;
+        text.put(".. and ");
+        text.put_number((lines - MOST_LINES) as u64);
+        text.put(" lines more\n");
     }
-    put(text, "</pre></details>\n")
+    text.put("</pre></details>\n");
 }

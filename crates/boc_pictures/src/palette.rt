@@ -1,11 +1,10 @@
 // The colours of defs: those of a page.
 
 use crate::def_costs::costs_of;
-use crate::html::put;
 use crate::subject::Subject;
+use crate::written::Written;
 use boc_names::text_at;
 use boc_page::{Defs, defs_of};
-use boc_text::put_number;
 use std::alloc::{AllocError, Global};
 use std::cmp::Reverse;
 
@@ -30,11 +29,10 @@ impl Colour {
     }
 
     /// Appends the class of what is filled with it to a text.
-    pub(crate) fn put_class(self, text: &mut Vec<u8>) -> Result<(), AllocError> {
-        put(text, "class=\"c")?;
-        put_number(text, self.0)?;
-        text.push(b'"')?;
-        Ok(())
+    pub(crate) fn put_class(self, text: &mut Written) {
+        text.put("class=\"c");
+        text.put_number(self.0);
+        text.push(b'"');
     }
 
     /// Returns the class of a text on it: black or white, whichever is read better.

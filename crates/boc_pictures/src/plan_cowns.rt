@@ -3,14 +3,14 @@
 use crate::drawing::{Point, put_label, put_words};
 use crate::fitting::put_fit;
 use crate::holders::{Held, held_of};
-use crate::html::{put, put_many};
+use crate::html::put_many;
 use crate::plan_lines::MOST_LINES;
 use crate::runs::{Lanes, put_lanes};
 use crate::sheet::{MARGIN, Part, Sheet, put_share};
 use crate::steps::{Height, Steps, put_steps, steps_of};
+use crate::written::Written;
 use boc_bars::{Bar, Stretch, lane_count, packed};
 use boc_names::text_at;
-use boc_text::put_number;
 use std::alloc::{AllocError, Global};
 use std::cmp::Reverse;
 
@@ -36,7 +36,7 @@ pub(crate) fn cowns_part(alloc: Global, sheet: Sheet<'_>, top: u64) -> Result<Pa
     held.truncate(MOST_LINES);
     let waits = waits_of(alloc, sheet)?;
     let mut part = Part {
-        lanes: Vec::new(alloc),
+        lanes: Written::new(alloc),
         foot: top,
     };
     for one in &held {
@@ -51,11 +51,12 @@ fn put_more(alloc: Global, part: &mut Part, more: usize) -> Result<(), AllocErro
     if more == 0 {
         return Ok(());
     }
-    let mut words = Vec::new(alloc);
-    put_many(&mut words, more as u64, "cown")?;
-    put(&mut words, " more held no longer")?;
+    let mut words = Written::new(alloc);
+    put_many(&mut words, more as u64, "cown");
+    words.put(" more held no longer");
+    let words = words.into_text()?;
     let y = part.foot.saturating_add(1_400);
-    put_words(&mut part.lanes, "s", Point { x: MARGIN, y }, &words, 60)?;
+    put_words(&mut part.lanes, "s", Point { x: MARGIN, y }, &words, 60);
     part.foot = part.foot.saturating_add(2_000);
     Ok(())
 }
@@ -132,8 +133,8 @@ fn put_cown(
 ) -> Result<(), AllocError> {
     let y = part.foot.saturating_add(1_320);
     let name = text_at(&sheet.subject.names.cowns, held.cown);
-    put_label(&mut part.lanes, Point { x: MARGIN, y }, name)?;
-    put_share(&mut part.lanes, y, held.ticks, sheet.subject.span)?;
+    put_label(&mut part.lanes, Point { x: MARGIN, y }, name);
+    put_share(&mut part.lanes, y, held.ticks, sheet.subject.span);
     let bars = bars_of(alloc, sheet, held.cown)?;
     put_lanes(
         alloc,
@@ -176,20 +177,23 @@ fn put_queue(
         hundredths: QUEUE,
         rows: queue.most,
     };
-    let mut words = Vec::from_slice(alloc, b"up to ")?;
-    put_number(&mut words, queue.most)?;
-    put(&mut words, if queue.most == 1 { " waits" } else { " wait" })?;
+    let mut words = Written::new(alloc);
+    words.put("up to ");
+    words.put_number(queue.most);
+    words.put(if queue.most == 1 { " waits" } else { " wait" });
+    let words = words.into_text()?;
     let at = Point {
         x: MARGIN,
         y: part.foot.saturating_sub(100),
     };
     let text = &mut part.lanes;
-    put_words(text, "s wide", at, &words, 60)?;
-    put(text, "<path class=\"queue\" d=\"")?;
-    put_steps(text, sheet.axis, &queue.list, part.foot, height)?;
-    put(text, "\"><title>")?;
-    put_fit(text, name, 80)?;
-    put(text, ": ")?;
-    text.extend_from_slice(&words)?;
-    put(text, "</title></path>\n")
+    put_words(text, "s wide", at, &words, 60);
+    text.put("<path class=\"queue\" d=\"");
+    put_steps(text, sheet.axis, &queue.list, part.foot, height);
+    text.put("\"><title>");
+    put_fit(text, name, 80);
+    text.put(": ");
+    text.put_bytes(&words);
+    text.put("</title></path>\n");
+    Ok(())
 }

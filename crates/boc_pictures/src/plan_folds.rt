@@ -2,13 +2,13 @@
 
 use crate::drawing::{LABEL_LETTERS, NARROW_LETTERS, Point, open_words};
 use crate::fitting::{letters_in, put_fit};
-use crate::html::{put, put_many};
+use crate::html::put_many;
 use crate::palette::DrawnDef;
 use crate::sheet::{MARGIN, Part, STRIP, Sheet, WIDTH};
 use crate::steps::{Height, Steps, put_steps, steps_of};
 use crate::stripes::Stripes;
+use crate::written::Written;
 use boc_bars::Stretch;
-use boc_text::put_number;
 use std::alloc::{AllocError, Global};
 
 // The most lanes. Where there are more defs, the last lane is of all others.
@@ -42,7 +42,7 @@ pub(crate) fn folded_part(alloc: Global, sheet: Sheet<'_>, top: u64) -> Result<P
     let folds = folds_of(alloc, sheet)?;
     let height = height_of(&folds);
     let mut feet = Vec::new(alloc);
-    let mut lanes = Vec::new(alloc);
+    let mut lanes = Written::new(alloc);
     let mut foot = top;
     for fold in &folds {
         foot = foot.saturating_add(height.of(fold.steps.most).max(LEAST_LANE));
@@ -50,7 +50,7 @@ pub(crate) fn folded_part(alloc: Global, sheet: Sheet<'_>, top: u64) -> Result<P
         feet.push(foot)?;
         foot = foot.saturating_add(GAP);
     }
-    strips(alloc, sheet, &feet)?.put(&mut lanes, "chain", sheet.axis, STRIP)?;
+    strips(alloc, sheet, &feet)?.put(&mut lanes, "chain", sheet.axis, STRIP);
     Ok(Part { lanes, foot })
 }
 
@@ -131,61 +131,65 @@ fn called<'a>(sheet: Sheet<'a>, fold: &Fold) -> &'a [u8] {
 // Appends a lane to a text, with what a mouse shows.
 fn put_fold(
     alloc: Global,
-    text: &mut Vec<u8>,
+    text: &mut Written,
     sheet: Sheet<'_>,
     fold: &Fold,
     foot: u64,
     height: Height,
 ) -> Result<(), AllocError> {
     put_fold_label(alloc, text, sheet, fold, foot.saturating_sub(400))?;
-    put(text, "<path ")?;
+    text.put("<path ");
     match fold.place {
-        Some(place) => sheet.palette.colour(place).put_class(text)?,
-        None => put(text, "class=\"rest\"")?,
+        Some(place) => sheet.palette.colour(place).put_class(text),
+        None => text.put("class=\"rest\""),
     }
-    put(text, " d=\"")?;
-    put_steps(text, sheet.axis, &fold.steps.list, foot, height)?;
-    put(text, "\"><title>")?;
-    put_title(text, sheet, fold)?;
-    put(text, "</title></path>\n")
+    text.put(" d=\"");
+    put_steps(text, sheet.axis, &fold.steps.list, foot, height);
+    text.put("\"><title>");
+    put_title(text, sheet, fold);
+    text.put("</title></path>\n");
+    Ok(())
 }
 
 // Appends what must be said of a lane to a text.
-fn put_title(text: &mut Vec<u8>, sheet: Sheet<'_>, fold: &Fold) -> Result<(), AllocError> {
-    put_fit(text, called(sheet, fold), 80)?;
-    put(text, ": ")?;
-    put_many(text, fold.rows, "row")?;
-    put(text, ", ")?;
-    put_many(text, fold.ticks, "tick")?;
-    put(text, ", at most ")?;
-    put_number(text, fold.steps.most)?;
-    put(text, " at once; the chain goes through ")?;
-    put_many(text, fold.chain, "tick")
+fn put_title(text: &mut Written, sheet: Sheet<'_>, fold: &Fold) {
+    put_fit(text, called(sheet, fold), 80);
+    text.put(": ");
+    put_many(text, fold.rows, "row");
+    text.put(", ");
+    put_many(text, fold.ticks, "tick");
+    text.put(", at most ");
+    text.put_number(fold.steps.most);
+    text.put(" at once; the chain goes through ");
+    put_many(text, fold.chain, "tick");
 }
 
 // Appends the label of a lane to a text, and to its right how many of its rows run at most.
 fn put_fold_label(
     alloc: Global,
-    text: &mut Vec<u8>,
+    text: &mut Written,
     sheet: Sheet<'_>,
     fold: &Fold,
     y: u64,
 ) -> Result<(), AllocError> {
-    let mut count = Vec::from_slice(alloc, b", ")?;
-    put_number(&mut count, fold.rows)?;
+    let mut count = Written::new(alloc);
+    count.put(", ");
+    count.put_number(fold.rows);
+    let count = count.into_text()?;
     let name = called(sheet, fold);
     let narrow = room(NARROW_LETTERS, &count);
     if letters_in(name) <= narrow {
-        put_name(text, "n", y, name, narrow, &count)?;
+        put_name(text, "n", y, name, narrow, &count);
     } else {
-        put_name(text, "n wide", y, name, room(LABEL_LETTERS, &count), &count)?;
-        put_name(text, "n narrow", y, name, narrow, &count)?;
+        put_name(text, "n wide", y, name, room(LABEL_LETTERS, &count), &count);
+        put_name(text, "n narrow", y, name, narrow, &count);
     }
     let x = WIDTH - MARGIN;
-    open_words(text, "r", Point { x, y })?;
-    put(text, "max ")?;
-    put_number(text, fold.steps.most)?;
-    put(text, "</text>\n")
+    open_words(text, "r", Point { x, y });
+    text.put("max ");
+    text.put_number(fold.steps.most);
+    text.put("</text>\n");
+    Ok(())
 }
 
 // Returns how many letters of a name fit into a label with this count.
@@ -194,19 +198,12 @@ fn room(letters: usize, count: &[u8]) -> usize {
 }
 
 // Appends a label with as much of a name as fits, and the count of its rows, to a text.
-fn put_name(
-    text: &mut Vec<u8>,
-    class: &str,
-    y: u64,
-    name: &[u8],
-    most: usize,
-    count: &[u8],
-) -> Result<(), AllocError> {
-    open_words(text, class, Point { x: MARGIN, y })?;
-    put(text, "▸ ")?;
-    put_fit(text, name, most)?;
-    text.extend_from_slice(count)?;
-    put(text, "</text>\n")
+fn put_name(text: &mut Written, class: &str, y: u64, name: &[u8], most: usize, count: &[u8]) {
+    open_words(text, class, Point { x: MARGIN, y });
+    text.put("▸ ");
+    put_fit(text, name, most);
+    text.put_bytes(count);
+    text.put("</text>\n");
 }
 
 // Returns the strips of the chain in lanes with these feet.

@@ -1,8 +1,8 @@
 // The earliest plan in text.
 
-use crate::columns::{Columns, put_folded, put_line, put_padded, up};
-use crate::spelling::Spelling;
+use crate::columns::{Columns, put_folded, put_label, put_line, put_right, up};
 use crate::subject::{Shown, Subject};
+use crate::written::Written;
 use boc_bars::{Bar, Stretch, lane_count, packed};
 use std::alloc::{AllocError, Global};
 
@@ -16,19 +16,13 @@ const LEAST_BARS: usize = 20;
 
 /// Returns the earliest plan, a line for each row, in the given number of columns. Where there are more than 60 rows, those that don't overlap share lines, and
 /// where that takes more than 60 lines too, a line reports on a def how many of its rows run.
-pub fn plan_text(alloc: Global, subject: &Subject, width: usize) -> Result<String, AllocError> {
-    let head = format!(in alloc;
-        "rows {}   work {}   span {}",
-        subject.count(),
-        subject.work,
-        subject.span
-    )?;
-    let mut text = String::new(alloc);
-    put_folded(&mut text, head.as_str(), width)?;
-    text.push('\n')?;
+pub fn plan_text(alloc: Global, subject: &Subject, width: usize) -> Result<Vec<u8>, AllocError> {
+    let mut text = Written::new(alloc);
+    put_folded(&mut text, &head_of(alloc, subject)?, width);
+    text.push(b'\n');
     if subject.count() <= MOST_LINES {
         put_rows(alloc, &mut text, subject, width)?;
-        return Ok(text);
+        return text.into_text();
     }
     let bars = packed(alloc, &stretches_of(alloc, subject)?)?;
     let lanes = lane_count(&bars);
@@ -37,7 +31,19 @@ pub fn plan_text(alloc: Global, subject: &Subject, width: usize) -> Result<Strin
     } else {
         put_sums(alloc, &mut text, subject, width)?;
     }
-    Ok(text)
+    text.into_text()
+}
+
+// Returns how many rows there are, the work and the span in words.
+fn head_of(alloc: Global, subject: &Subject) -> Result<Vec<u8>, AllocError> {
+    let mut text = Written::new(alloc);
+    text.put("rows ");
+    text.put_number(subject.count() as u64);
+    text.put("   work ");
+    text.put_number(subject.work);
+    text.put("   span ");
+    text.put_number(subject.span);
+    text.into_text()
 }
 
 // When each row runs.
@@ -55,18 +61,19 @@ pub(crate) fn stretches_of(alloc: Global, subject: &Subject) -> Result<Vec<Stret
 // Puts what marks say, and how many ticks a column takes.
 fn put_legend(
     alloc: Global,
-    text: &mut String,
+    text: &mut Written,
     columns: Columns,
     width: usize,
     waits: bool,
 ) -> Result<(), AllocError> {
-    let mut head = String::new(alloc);
-    columns.put_scale(&mut head)?;
-    head.push_str("; # runs, and the chain goes through it; = runs")?;
+    let mut head = Written::new(alloc);
+    columns.put_scale(&mut head);
+    head.put("; # runs, and the chain goes through it; = runs");
     if waits {
-        head.push_str("; . waits for a cown")?;
+        head.put("; . waits for a cown");
     }
-    put_folded(text, head.as_str(), width)
+    put_folded(text, &head.into_text()?, width);
+    Ok(())
 }
 
 // Paints when a row waits and runs.
@@ -84,7 +91,7 @@ fn paint(line: &mut [u8], columns: Columns, row: &Shown, waits: bool) {
 // Puts a line for each row.
 fn put_rows(
     alloc: Global,
-    text: &mut String,
+    text: &mut Written,
     subject: &Subject,
     width: usize,
 ) -> Result<(), AllocError> {
@@ -99,12 +106,11 @@ fn put_rows(
     for row in &subject.shown {
         let mut line = columns.line(alloc)?;
         paint(&mut line, columns, row, true);
-        let name = Spelling::Text.of(alloc, subject.name(row.row), label)?;
-        write!(text, "{:>3} ", row.row)?;
-        put_padded(text, name.as_str(), label)?;
-        text.push(' ')?;
-        put_line(text, &line)?;
-        text.push('\n')?;
+        put_right(text, u64::from(row.row), 3);
+        text.push(b' ');
+        put_label(text, subject.name(row.row), label);
+        put_line(text, &line);
+        text.push(b'\n');
     }
     Ok(())
 }
@@ -121,18 +127,19 @@ fn label_width(subject: &Subject) -> usize {
 // Puts a line for each lane.
 fn put_lanes(
     alloc: Global,
-    text: &mut String,
+    text: &mut Written,
     subject: &Subject,
     width: usize,
     bars: &[Bar],
     lanes: u64,
 ) -> Result<(), AllocError> {
     let columns = Columns::new(subject.span, width.saturating_sub(2).max(LEAST_BARS));
-    let head = format!(in alloc;
-        "{} rows in {lanes} lines: those in one line follow each other",
-        subject.count()
-    )?;
-    put_folded(text, head.as_str(), width)?;
+    let mut head = Written::new(alloc);
+    head.put_number(subject.count() as u64);
+    head.put(" rows in ");
+    head.put_number(lanes);
+    head.put(" lines: those in one line follow each other");
+    put_folded(text, &head.into_text()?, width);
     put_legend(alloc, text, columns, width, false)?;
     for lane in 0..lanes {
         let mut line = columns.line(alloc)?;
@@ -143,8 +150,8 @@ fn put_lanes(
                 paint(&mut line, columns, row, false);
             }
         }
-        put_line(text, &line)?;
-        text.push('\n')?;
+        put_line(text, &line);
+        text.push(b'\n');
     }
     Ok(())
 }
@@ -162,7 +169,7 @@ fn digit(number: u64, most: u64) -> u8 {
 // Puts a line for each def, or one for all rows, where there are too many defs: how many rows run.
 fn put_sums(
     alloc: Global,
-    text: &mut String,
+    text: &mut Written,
     subject: &Subject,
     width: usize,
 ) -> Result<(), AllocError> {
@@ -170,18 +177,18 @@ fn put_sums(
     let columns = Columns::new(subject.span, width.saturating_sub(19).max(LEAST_BARS));
     let all = counts(alloc, subject, columns, None)?;
     let most = all.iter().copied().max().unwrap_or(1);
-    let mut head = format!(in alloc; "{} rows, summed up: ", subject.count())?;
-    columns.put_scale(&mut head)?;
-    write!(
-        head,
-        "; a digit is how many of them run in a column, in ninths of {most}"
-    )?;
-    put_folded(text, head.as_str(), width)?;
-    put_sum(alloc, text, b"all", &all, most)?;
+    let mut head = Written::new(alloc);
+    head.put_number(subject.count() as u64);
+    head.put(" rows, summed up: ");
+    columns.put_scale(&mut head);
+    head.put("; a digit is how many of them run in a column, in ninths of ");
+    head.put_number(most);
+    put_folded(text, &head.into_text()?, width);
+    put_sum(text, b"all", &all, most);
     if defs.len() <= MOST_LINES {
         for (def, name) in defs.iter().enumerate() {
             let own = counts(alloc, subject, columns, Some(def))?;
-            put_sum(alloc, text, name, &own, most)?;
+            put_sum(text, name, &own, most);
         }
     }
     Ok(())
@@ -194,10 +201,7 @@ fn counts(
     columns: Columns,
     def: Option<usize>,
 ) -> Result<Vec<u64>, AllocError> {
-    let mut counts = Vec::new(alloc);
-    for _ in 0..columns.count() {
-        counts.push(0)?;
-    }
+    let mut counts = vec![in alloc; 0u64; columns.count()]?;
     for row in &subject.shown {
         if def.is_none() || def == Some(subject.def(row.row)) {
             columns.count_in(&mut counts, row.start, row.end);
@@ -207,20 +211,11 @@ fn counts(
 }
 
 // Puts a line of counts after a name.
-fn put_sum(
-    alloc: Global,
-    text: &mut String,
-    name: &[u8],
-    counts: &[u64],
-    most: u64,
-) -> Result<(), AllocError> {
-    let mut line = Vec::new(alloc);
+fn put_sum(text: &mut Written, name: &[u8], counts: &[u64], most: u64) {
+    put_label(text, name, 16);
+    text.push(b'|');
     for count in counts {
-        line.push(digit(*count, most))?;
+        text.push(digit(*count, most));
     }
-    let name = Spelling::Text.of(alloc, name, 16)?;
-    put_padded(text, name.as_str(), 16)?;
-    text.push(' ')?;
-    put_line(text, &line)?;
-    text.push('\n')
+    text.put("|\n");
 }

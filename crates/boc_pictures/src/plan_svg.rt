@@ -1,7 +1,6 @@
 // The plans of a run as a drawing.
 
 use crate::drawing::{Heading, put_heading, whole};
-use crate::html::put;
 use crate::legend::put_legend;
 use crate::palette::Palette;
 use crate::plan_cowns::cowns_part;
@@ -12,7 +11,7 @@ use crate::plan_workers::{put_plan_words, workers_part};
 use crate::sheet::{Sheet, WIDTH, axis_to, lanes_top, put_part};
 use crate::subject::Subject;
 use crate::worker_plan::WorkerPlan;
-use boc_text::put_number;
+use crate::written::Written;
 use std::alloc::{AllocError, Global};
 
 /// What is drawn of a run.
@@ -37,8 +36,8 @@ pub fn plan_drawing(alloc: Global, drawn: &Drawn<'_>) -> Result<Vec<u8>, AllocEr
         palette: &palette,
         axis: axis_to(end_of(drawn)),
     };
-    let mut text = Vec::new(alloc);
-    let mut y = put_heading(&mut text, drawn.heading)?;
+    let mut text = Written::new(alloc);
+    let mut y = put_heading(&mut text, drawn.heading);
     y = put_earliest(alloc, &mut text, sheet, y)?;
     y = put_plans(alloc, &mut text, sheet, drawn, y)?;
     y = put_legend(alloc, &mut text, sheet, drawn, y)?;
@@ -62,51 +61,51 @@ pub(crate) fn has_rows(sheet: Sheet<'_>) -> bool {
 // Appends the earliest plan to a text, and returns where it ends.
 fn put_earliest(
     alloc: Global,
-    text: &mut Vec<u8>,
+    text: &mut Written,
     sheet: Sheet<'_>,
     top: u64,
 ) -> Result<u64, AllocError> {
-    let mut words = Vec::from_slice(alloc, b"The earliest plan: ")?;
-    put_number(&mut words, sheet.subject.count() as u64)?;
+    let mut words = Written::new(alloc);
+    words.put("The earliest plan: ");
+    words.put_number(sheet.subject.count() as u64);
     let is_one = sheet.subject.count() == 1;
-    put(
-        &mut words,
-        if is_one {
-            " row, work "
-        } else {
-            " rows, work "
-        },
-    )?;
-    put_number(&mut words, sheet.subject.work)?;
-    put(&mut words, ", span ")?;
-    put_number(&mut words, sheet.subject.span)?;
+    words.put(if is_one {
+        " row, work "
+    } else {
+        " rows, work "
+    });
+    words.put_number(sheet.subject.work);
+    words.put(", span ");
+    words.put_number(sheet.subject.span);
+    let words = words.into_text()?;
     let part = if has_rows(sheet) {
         rows_part(alloc, sheet, lanes_top(top))?
     } else {
         folded_part(alloc, sheet, lanes_top(top))?
     };
-    put_part(text, sheet.axis, top, &words, &part)
+    Ok(put_part(text, sheet.axis, top, &words, &part))
 }
 
 // Appends the plans on workers and the cowns to a text, as far as they are drawn, and returns where they end.
 fn put_plans(
     alloc: Global,
-    text: &mut Vec<u8>,
+    text: &mut Written,
     sheet: Sheet<'_>,
     drawn: &Drawn<'_>,
     top: u64,
 ) -> Result<u64, AllocError> {
     let mut y = top;
     for plan in drawn.plans {
-        let mut words = Vec::new(alloc);
-        put_plan_words(&mut words, *plan)?;
+        let mut words = Written::new(alloc);
+        put_plan_words(&mut words, *plan);
+        let words = words.into_text()?;
         let part = workers_part(alloc, sheet, *plan, lanes_top(y))?;
-        y = put_part(text, sheet.axis, y, &words, &part)?;
+        y = put_part(text, sheet.axis, y, &words, &part);
     }
     if drawn.cowns {
         let words = b"The cowns: which row holds each in the earliest plan";
         let part = cowns_part(alloc, sheet, lanes_top(y))?;
-        y = put_part(text, sheet.axis, y, words, &part)?;
+        y = put_part(text, sheet.axis, y, words, &part);
     }
     Ok(y)
 }

@@ -2,13 +2,12 @@
 
 use crate::axis::put_down;
 use crate::drawing::{Point, put_label};
-use crate::html::put;
 use crate::runs::{Lanes, put_lanes};
 use crate::sheet::{BAR, LANE, MARGIN, Part, Sheet, lane_top, put_share};
 use crate::steps::Height;
 use crate::worker_plan::WorkerPlan;
+use crate::written::Written;
 use boc_bars::Bar;
-use boc_text::put_number;
 use std::alloc::{AllocError, Global};
 
 /// Returns a plan on workers with a lane for each worker, and a line where it ends.
@@ -20,7 +19,7 @@ pub(crate) fn workers_part(
 ) -> Result<Part, AllocError> {
     let bars = bars_of(alloc, sheet, plan)?;
     let foot = lane_top(top, plan.p as usize);
-    let mut lanes = Vec::new(alloc);
+    let mut lanes = Written::new(alloc);
     put_labels(alloc, &mut lanes, plan, &bars, top)?;
     let places = Lanes {
         top,
@@ -31,7 +30,7 @@ pub(crate) fn workers_part(
         gap: LANE - BAR,
     };
     put_lanes(alloc, &mut lanes, sheet, places, &bars)?;
-    put_end(&mut lanes, sheet, plan, top, foot)?;
+    put_end(&mut lanes, sheet, plan, top, foot);
     Ok(Part { lanes, foot })
 }
 
@@ -50,7 +49,7 @@ fn bars_of(alloc: Global, sheet: Sheet<'_>, plan: WorkerPlan<'_>) -> Result<Vec<
 // Appends to a text what each worker is called, and for what part of the plan it is busy.
 fn put_labels(
     alloc: Global,
-    text: &mut Vec<u8>,
+    text: &mut Written,
     plan: WorkerPlan<'_>,
     bars: &[Bar],
     top: u64,
@@ -63,45 +62,38 @@ fn put_labels(
     }
     for (worker, ticks) in busy.iter().enumerate() {
         let y = lane_top(top, worker).saturating_add(1_450);
-        let mut label = Vec::from_slice(alloc, b"worker ")?;
-        put_number(&mut label, worker as u64)?;
-        put_label(text, Point { x: MARGIN, y }, &label)?;
-        put_share(text, y, *ticks, plan.ends_at)?;
+        let mut label = Written::new(alloc);
+        label.put("worker ");
+        label.put_number(worker as u64);
+        let label = label.into_text()?;
+        put_label(text, Point { x: MARGIN, y }, &label);
+        put_share(text, y, *ticks, plan.ends_at);
     }
     Ok(())
 }
 
 // Appends a line to a text where a plan ends.
-fn put_end(
-    text: &mut Vec<u8>,
-    sheet: Sheet<'_>,
-    plan: WorkerPlan<'_>,
-    top: u64,
-    foot: u64,
-) -> Result<(), AllocError> {
-    put(text, "<path class=\"end\" d=\"")?;
-    put_down(text, sheet.axis.at(plan.ends_at), top, foot)?;
-    put(text, "\"><title>")?;
-    put(text, plan.end_name())?;
-    put(text, "</title></path>\n")
+fn put_end(text: &mut Written, sheet: Sheet<'_>, plan: WorkerPlan<'_>, top: u64, foot: u64) {
+    text.put("<path class=\"end\" d=\"");
+    put_down(text, sheet.axis.at(plan.ends_at), top, foot);
+    text.put("\"><title>");
+    text.put(plan.end_name());
+    text.put("</title></path>\n");
 }
 
 /// Appends what is above a plan on workers to a text.
-pub(crate) fn put_plan_words(text: &mut Vec<u8>, plan: WorkerPlan<'_>) -> Result<(), AllocError> {
-    put(text, plan.title())?;
-    text.push(b' ')?;
-    put(text, plan.joint())?;
-    text.push(b' ')?;
-    put_number(text, u64::from(plan.p))?;
-    put(
-        text,
-        if plan.p == 1 {
-            " worker: end "
-        } else {
-            " workers: end "
-        },
-    )?;
-    put_number(text, plan.ends_at)?;
-    put(text, ", bound ")?;
-    put_number(text, plan.bound)
+pub(crate) fn put_plan_words(text: &mut Written, plan: WorkerPlan<'_>) {
+    text.put(plan.title());
+    text.push(b' ');
+    text.put(plan.joint());
+    text.push(b' ');
+    text.put_number(u64::from(plan.p));
+    text.put(if plan.p == 1 {
+        " worker: end "
+    } else {
+        " workers: end "
+    });
+    text.put_number(plan.ends_at);
+    text.put(", bound ");
+    text.put_number(plan.bound);
 }

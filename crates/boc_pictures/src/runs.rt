@@ -2,12 +2,12 @@
 
 use crate::axis::{Area, put_down};
 use crate::fitting::put_fit;
-use crate::html::{put, put_many};
+use crate::html::put_many;
 use crate::sheet::{STRIP, Sheet};
 use crate::steps::Height;
 use crate::stripes::Stripes;
+use crate::written::Written;
 use boc_bars::Bar;
-use boc_text::put_number;
 use std::alloc::{AllocError, Global};
 
 // Rows that are narrower than this, in hundredths of a pixel, are one bar where they are of one def and follow each other.
@@ -107,48 +107,40 @@ fn runs_of(alloc: Global, sheet: Sheet<'_>, bars: &[Bar]) -> Result<Vec<Run>, Al
 /// Appends lanes of these rows, sorted by lane and start, to a text. Those of one lane don't overlap.
 pub(crate) fn put_lanes(
     alloc: Global,
-    text: &mut Vec<u8>,
+    text: &mut Written,
     sheet: Sheet<'_>,
     lanes: Lanes,
     bars: &[Bar],
 ) -> Result<(), AllocError> {
     let runs = runs_of(alloc, sheet, bars)?;
     for run in &runs {
-        put_run(text, sheet, lanes, run)?;
+        put_run(text, sheet, lanes, run);
     }
-    put_cuts(text, sheet, lanes, &runs)?;
+    put_cuts(text, sheet, lanes, &runs);
     let strips = strips(alloc, sheet, lanes, bars)?;
-    strips.put(text, "chain", sheet.axis, lanes.strip())
+    strips.put(text, "chain", sheet.axis, lanes.strip());
+    Ok(())
 }
 
 // Appends a bar to a text, with what a mouse shows. One without width is left out.
-fn put_run(
-    text: &mut Vec<u8>,
-    sheet: Sheet<'_>,
-    lanes: Lanes,
-    run: &Run,
-) -> Result<(), AllocError> {
+fn put_run(text: &mut Written, sheet: Sheet<'_>, lanes: Lanes, run: &Run) {
     let area = lanes.area(sheet, run.first, run.end);
     if area.width == 0 {
-        return Ok(());
+        return;
     }
     if sheet.subject.count() > MOST_TITLES {
-        return put_filled(text, sheet, run, area);
+        put_filled(text, sheet, run, area);
+        return;
     }
-    put(text, "<g><title>")?;
-    put_title(text, sheet, run)?;
-    put(text, "</title>")?;
-    put_filled(text, sheet, run, area)?;
-    put(text, "</g>\n")
+    text.put("<g><title>");
+    put_title(text, sheet, run);
+    text.put("</title>");
+    put_filled(text, sheet, run, area);
+    text.put("</g>\n");
 }
 
 // Appends the rectangle of a bar to a text, with a name where it is of one row.
-fn put_filled(
-    text: &mut Vec<u8>,
-    sheet: Sheet<'_>,
-    run: &Run,
-    area: Area,
-) -> Result<(), AllocError> {
+fn put_filled(text: &mut Written, sheet: Sheet<'_>, run: &Run, area: Area) {
     if run.rows == 1 && area.height >= NAMED {
         sheet.put_bar(text, run.first.row, area)
     } else {
@@ -157,36 +149,31 @@ fn put_filled(
 }
 
 // Appends what must be said of a bar to a text.
-fn put_title(text: &mut Vec<u8>, sheet: Sheet<'_>, run: &Run) -> Result<(), AllocError> {
+fn put_title(text: &mut Written, sheet: Sheet<'_>, run: &Run) {
     if run.rows == 1 {
-        sheet.put_called(text, run.first.row)?;
+        sheet.put_called(text, run.first.row);
     } else {
-        put_many(text, run.rows, "row")?;
-        put(text, " of ")?;
-        put_fit(text, sheet.palette.called(run.place), 80)?;
+        put_many(text, run.rows, "row");
+        text.put(" of ");
+        put_fit(text, sheet.palette.called(run.place), 80);
     }
-    put(text, ": ")?;
-    put_number(text, run.first.start)?;
-    put(text, " to ")?;
-    put_number(text, run.end)
+    text.put(": ");
+    text.put_number(run.first.start);
+    text.put(" to ");
+    text.put_number(run.end);
 }
 
 // Appends a thin cut at the end of each bar that isn't narrow to a text.
-fn put_cuts(
-    text: &mut Vec<u8>,
-    sheet: Sheet<'_>,
-    lanes: Lanes,
-    runs: &[Run],
-) -> Result<(), AllocError> {
-    put(text, "<path class=\"cuts\" d=\"")?;
+fn put_cuts(text: &mut Written, sheet: Sheet<'_>, lanes: Lanes, runs: &[Run]) {
+    text.put("<path class=\"cuts\" d=\"");
     for run in runs {
         let area = lanes.area(sheet, run.first, run.end);
         if area.width >= CUT {
             let x = area.x.saturating_add(area.width).saturating_sub(35);
-            put_down(text, x, area.y, area.y.saturating_add(area.height))?;
+            put_down(text, x, area.y, area.y.saturating_add(area.height));
         }
     }
-    put(text, "\"/>\n")
+    text.put("\"/>\n");
 }
 
 // Returns the strips of the chain, at the foot of the bars.

@@ -3,10 +3,10 @@
 use crate::axis::{Area, Axis, put_axis};
 use crate::drawing::{Point, open_words, put_words};
 use crate::fitting::put_fit;
-use crate::html::{put, put_percent};
+use crate::html::put_percent;
 use crate::palette::Palette;
 use crate::subject::{Shown, Subject};
-use boc_text::put_number;
+use crate::written::Written;
 use std::alloc::{AllocError, Global};
 
 // Lengths, in hundredths of a pixel.
@@ -50,7 +50,7 @@ pub(crate) struct Sheet<'a> {
 /// A part of a drawing: its lanes, and where the last of them ends.
 #[derive(Drop)]
 pub(crate) struct Part {
-    pub(crate) lanes: Vec<u8>,
+    pub(crate) lanes: Written,
     pub(crate) foot: u64,
 }
 
@@ -75,33 +75,28 @@ pub(crate) fn lane_top(top: u64, lane: usize) -> u64 {
 
 /// Appends a part with its heading to a text, and returns where it ends.
 pub(crate) fn put_part(
-    text: &mut Vec<u8>,
+    text: &mut Written,
     axis: Axis,
     top: u64,
     heading: &[u8],
     part: &Part,
-) -> Result<u64, AllocError> {
+) -> u64 {
     let at = Point {
         x: MARGIN,
         y: top.saturating_add(2_200),
     };
-    put_words(text, "h", at, heading, 100)?;
-    put_axis(text, axis, top.saturating_add(5_000), part.foot)?;
-    text.extend_from_slice(&part.lanes)?;
-    Ok(part.foot)
+    put_words(text, "h", at, heading, 100);
+    put_axis(text, axis, top.saturating_add(5_000), part.foot);
+    text.put_all(&part.lanes);
+    part.foot
 }
 
 /// Appends what is to the right of a lane to a text: a part of a whole in percents.
-pub(crate) fn put_share(
-    text: &mut Vec<u8>,
-    y: u64,
-    part: u64,
-    whole: u64,
-) -> Result<(), AllocError> {
+pub(crate) fn put_share(text: &mut Written, y: u64, part: u64, whole: u64) {
     let x = WIDTH - MARGIN;
-    open_words(text, "r", Point { x, y })?;
-    put_percent(text, part, whole)?;
-    put(text, "</text>\n")
+    open_words(text, "r", Point { x, y });
+    put_percent(text, part, whole);
+    text.put("</text>\n");
 }
 
 impl<'a> Sheet<'a> {
@@ -125,75 +120,64 @@ impl<'a> Sheet<'a> {
 
     /// Returns what a row is called in its bar, and in the label of its lane: that begins with its number.
     pub(crate) fn label(self, alloc: Global, row: u32) -> Result<Vec<u8>, AllocError> {
-        let mut label = Vec::new(alloc);
+        let mut label = Written::new(alloc);
         if self.is_named(row) {
-            put_number(&mut label, u64::from(row))?;
-            label.push(b' ')?;
+            label.put_number(u64::from(row));
+            label.push(b' ');
         }
-        label.extend_from_slice(self.subject.name(row))?;
-        Ok(label)
+        label.put_bytes(self.subject.name(row));
+        label.into_text()
     }
 
     /// Appends the number of a row and its name to a text, or, where it has none, its cowns.
-    pub(crate) fn put_called(self, text: &mut Vec<u8>, row: u32) -> Result<(), AllocError> {
-        put(text, "row ")?;
-        put_number(text, u64::from(row))?;
+    pub(crate) fn put_called(self, text: &mut Written, row: u32) {
+        text.put("row ");
+        text.put_number(u64::from(row));
         if self.is_named(row) {
-            text.push(b' ')?;
-            return put_fit(text, self.subject.name(row), TITLE_LETTERS);
+            text.push(b' ');
+            put_fit(text, self.subject.name(row), TITLE_LETTERS);
+            return;
         }
         for cown in self.subject.cowns(row) {
-            text.push(b' ')?;
-            put_fit(text, self.subject.cown_name(*cown), TITLE_LETTERS)?;
+            text.push(b' ');
+            put_fit(text, self.subject.cown_name(*cown), TITLE_LETTERS);
         }
-        Ok(())
     }
 
     /// Appends the names of the cowns that a row hands to another one to a text, with ` and ` between them.
-    pub(crate) fn put_handed(
-        self,
-        text: &mut Vec<u8>,
-        from: u32,
-        to: u32,
-    ) -> Result<(), AllocError> {
+    pub(crate) fn put_handed(self, text: &mut Written, from: u32, to: u32) {
         let Some(handed) = self.subject.handed(from, to) else {
-            return Ok(());
+            return;
         };
         for (place, cown) in handed.as_slice().iter().enumerate() {
             if place > 0 {
-                put(text, " and ")?;
+                text.put(" and ");
             }
-            put_fit(text, self.subject.cown_name(*cown), TITLE_LETTERS)?;
+            put_fit(text, self.subject.cown_name(*cown), TITLE_LETTERS);
         }
-        Ok(())
     }
 
     /// Appends the bar of a row from one tick to another one to a text, with its name, as much of it as fits.
-    pub(crate) fn put_bar(self, text: &mut Vec<u8>, row: u32, bar: Area) -> Result<(), AllocError> {
-        self.put_area(text, self.palette.place(row), bar)?;
+    pub(crate) fn put_bar(self, text: &mut Written, row: u32, bar: Area) {
+        self.put_area(text, self.palette.place(row), bar);
         let letters = bar.width.saturating_sub(2 * INSET) / LETTER;
         if letters < LEAST_LETTERS {
-            return Ok(());
+            return;
         }
         let ink = self.palette.colour(self.palette.place(row)).ink();
         let at = Point {
             x: bar.x.saturating_add(INSET),
             y: bar.y.saturating_add(1_320),
         };
-        put_words(text, ink, at, self.subject.name(row), letters as usize)
+        put_words(text, ink, at, self.subject.name(row), letters as usize);
     }
 
     /// Appends a rectangle in the colour of the def at a place to a text.
-    pub(crate) fn put_area(
-        self,
-        text: &mut Vec<u8>,
-        place: u32,
-        area: Area,
-    ) -> Result<(), AllocError> {
-        put(text, "<path ")?;
-        self.palette.colour(place).put_class(text)?;
-        put(text, " d=\"")?;
-        area.put(text)?;
-        put(text, "\"/>\n")
+    pub(crate) fn put_area(self, text: &mut Written, place: u32, area: Area) {
+        text.put("<path ");
+        self.palette.colour(place).put_class(text);
+        text.put(" d=\"");
+        area.put(text);
+        text.put("\"/>\n");
     }
 }

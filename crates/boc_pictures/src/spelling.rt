@@ -1,6 +1,6 @@
 // How names are spelled in a text and in JSON.
 
-use std::alloc::{AllocError, Global};
+use crate::written::Written;
 
 // Returns whether a byte is printed as it is.
 fn is_printable(byte: u8) -> bool {
@@ -15,44 +15,26 @@ pub(crate) enum Spelling {
 }
 
 impl Spelling {
-    /// Returns a name, at most this many bytes of it.
-    pub(crate) fn of(self, alloc: Global, name: &[u8], most: usize) -> Result<String, AllocError> {
-        match self {
-            Spelling::Text => plain(alloc, name, most),
-            Spelling::Json => json(alloc, name, most),
-        }
-    }
-}
-
-// Returns a name in a text, at most this many bytes of it: what is left out is written as two dots, and a byte that can't be printed by `?`.
-fn plain(alloc: Global, name: &[u8], most: usize) -> Result<String, AllocError> {
-    let mut text = String::new(alloc);
-    let kept = if name.len() <= most {
-        most
-    } else {
-        most.saturating_sub(2)
-    };
-    for byte in name.iter().take(kept) {
-        text.push(if is_printable(*byte) {
-            char::from(*byte)
+    /// Puts a name, at most this many bytes of it: what is left out is written as two dots, and a byte that can't be printed by `?`.
+    pub(crate) fn put(self, text: &mut Written, name: &[u8], most: usize) {
+        let kept = if name.len() <= most {
+            most
         } else {
-            '?'
-        })?;
-    }
-    if name.len() > most {
-        text.push_str("..")?;
-    }
-    Ok(text)
-}
-
-// Returns a name in a string of JSON: what means something there comes after a backslash.
-fn json(alloc: Global, name: &[u8], most: usize) -> Result<String, AllocError> {
-    let mut text = String::new(alloc);
-    for character in plain(alloc, name, most)?.chars() {
-        if character == '"' || character == '\\' {
-            text.push('\\')?;
+            most.saturating_sub(2)
+        };
+        for byte in name.iter().take(kept) {
+            self.put_byte(text, if is_printable(*byte) { *byte } else { b'?' });
         }
-        text.push(character)?;
+        if name.len() > most {
+            text.put("..");
+        }
     }
-    Ok(text)
+
+    // Puts a byte that is printed: in a string of JSON, what means something there comes after a backslash.
+    fn put_byte(self, text: &mut Written, byte: u8) {
+        if self == Spelling::Json && (byte == b'"' || byte == b'\\') {
+            text.push(b'\\');
+        }
+        text.push(byte);
+    }
 }

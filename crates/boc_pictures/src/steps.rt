@@ -1,6 +1,7 @@
 // How many run at each tick.
 
 use crate::axis::{Axis, put_length};
+use crate::written::Written;
 use boc_bars::Stretch;
 use std::alloc::{AllocError, Global};
 
@@ -92,26 +93,19 @@ pub(crate) fn steps_of(alloc: Global, stretches: &[Stretch]) -> Result<Steps, Al
 }
 
 /// Appends the shape of steps above a foot to a text.
-pub(crate) fn put_steps(
-    text: &mut Vec<u8>,
-    axis: Axis,
-    steps: &[Step],
-    foot: u64,
-    height: Height,
-) -> Result<(), AllocError> {
+pub(crate) fn put_steps(text: &mut Written, axis: Axis, steps: &[Step], foot: u64, height: Height) {
     let Some(first) = steps.first() else {
-        return Ok(());
+        return;
     };
-    text.push(b'M')?;
-    put_length(text, axis.at(first.tick))?;
-    text.push(b' ')?;
-    put_length(text, foot)?;
+    text.push(b'M');
+    put_length(text, axis.at(first.tick));
+    text.push(b' ');
+    put_length(text, foot);
     for step in steps {
-        text.push(b'H')?;
-        put_length(text, axis.at(step.tick))?;
-        text.push(b'V')?;
-        put_length(text, foot.saturating_sub(height.of(step.count)))?;
+        text.push(b'H');
+        put_length(text, axis.at(step.tick));
+        text.push(b'V');
+        put_length(text, foot.saturating_sub(height.of(step.count)));
     }
-    text.push(b'z')?;
-    Ok(())
+    text.push(b'z');
 }

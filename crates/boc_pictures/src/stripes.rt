@@ -1,7 +1,7 @@
 // Stretches of lanes that are filled alike.
 
 use crate::axis::{Area, Axis};
-use crate::html::put;
+use crate::written::Written;
 use std::alloc::{AllocError, Global};
 
 // What is filled of a lane.
@@ -43,22 +43,16 @@ impl Stripes {
     }
 
     /// Appends the stretches to a text as one path of a class, this high.
-    pub(crate) fn put(
-        &self,
-        text: &mut Vec<u8>,
-        class: &str,
-        axis: Axis,
-        height: u64,
-    ) -> Result<(), AllocError> {
+    pub(crate) fn put(&self, text: &mut Written, class: &str, axis: Axis, height: u64) {
         if self.list.is_empty() {
-            return Ok(());
+            return;
         }
-        put(text, "<path class=\"")?;
-        put(text, class)?;
-        put(text, "\" d=\"")?;
+        text.put("<path class=\"");
+        text.put(class);
+        text.put("\" d=\"");
         for stripe in &self.list {
-            Area::of(axis, stripe.start, stripe.end, stripe.y, height).put(text)?;
+            Area::of(axis, stripe.start, stripe.end, stripe.y, height).put(text);
         }
-        put(text, "\"/>\n")
+        text.put("\"/>\n");
     }
 }

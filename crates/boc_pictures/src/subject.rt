@@ -8,6 +8,7 @@ ghost use Rattle.boc_order.specs.Standing.{IsPlanOf};
 ghost use Rattle.boc_pictures.specs.Subjects.{AreShown, IsShownAs, IsSubject, through_of};
 
 use crate::spelling::Spelling;
+use crate::written::Written;
 use boc_names::{Names, text_at};
 use boc_order::{Earliest, handed, spawned_at, waits_and_plan};
 use boc_plans::chain::ChainStep;
@@ -122,26 +123,16 @@ impl Subject {
     }
 
     /// Puts the names of the cowns that a row hands to another one, with ` and ` between them.
-    pub(crate) fn put_handed(
-        &self,
-        text: &mut String,
-        spelling: Spelling,
-        alloc: Global,
-        from: u32,
-        to: u32,
-    ) -> Result<(), AllocError> {
+    pub(crate) fn put_handed(&self, text: &mut Written, spelling: Spelling, from: u32, to: u32) {
         let Some(handed) = self.handed(from, to) else {
-            return Ok(());
+            return;
         };
-        let mut first = true;
-        for cown in handed.as_slice() {
-            if !first {
-                text.push_str(" and ")?;
+        for (place, cown) in handed.as_slice().iter().enumerate() {
+            if place > 0 {
+                text.put(" and ");
             }
-            first = false;
-            text.push_str(spelling.of(alloc, self.cown_name(*cown), 80)?.as_str())?;
+            spelling.put(text, self.cown_name(*cown), 80);
         }
-        Ok(())
     }
 }
 

@@ -92,14 +92,13 @@ fn drawn(
     width: usize,
 ) -> Result<Vec<u8>, AllocError> {
     let subject = &material.subject;
-    let text = match wanted.picture {
-        Picture::Text { cowns, .. } => lines(alloc, material, cowns, width)?,
-        Picture::Plan { cowns } => return plan_of(alloc, wanted, material, is_program, cowns),
-        Picture::Curve => return curve_of(alloc, wanted, material),
-        Picture::Page => return page_of(alloc, wanted, material),
-        Picture::Trace => trace_text(alloc, subject, &on_workers(alloc, material)?)?,
-    };
-    Ok(text.into_bytes())
+    match wanted.picture {
+        Picture::Text { cowns, .. } => lines(alloc, material, cowns, width),
+        Picture::Plan { cowns } => plan_of(alloc, wanted, material, is_program, cowns),
+        Picture::Curve => curve_of(alloc, wanted, material),
+        Picture::Page => page_of(alloc, wanted, material),
+        Picture::Trace => trace_text(alloc, subject, &on_workers(alloc, material)?),
+    }
 }
 
 // Returns the plans on workers that are shown: the greedy one, and then the schedule of a timed run.
@@ -165,21 +164,21 @@ fn lines(
     material: &Material,
     cowns: bool,
     width: usize,
-) -> Result<String, AllocError> {
+) -> Result<Vec<u8>, AllocError> {
     let subject = &material.subject;
-    let mut text = String::new(alloc);
+    let mut text = Vec::new(alloc);
     if !cowns && material.points.is_none() && material.greedy.is_none() {
-        text.push_str(plan_text(alloc, subject, width)?.as_str())?;
+        text.extend_from_slice(&plan_text(alloc, subject, width)?)?;
     }
     if cowns {
-        text.push_str(cowns_text(alloc, subject, width)?.as_str())?;
+        text.extend_from_slice(&cowns_text(alloc, subject, width)?)?;
     }
     for plan in &on_workers(alloc, material)? {
-        text.push_str(workers_text(alloc, subject, *plan, width)?.as_str())?;
+        text.extend_from_slice(&workers_text(alloc, subject, *plan, width)?)?;
     }
     if let Some(points) = &material.points {
         let curve = curve_text(alloc, subject.work, subject.span, points, width)?;
-        text.push_str(curve.as_str())?;
+        text.extend_from_slice(&curve)?;
     }
     Ok(text)
 }

@@ -88,7 +88,7 @@ fn made(
         judged: &found.judged,
         sentences: &sentences,
         chain: &found.chain,
-        plan: plan.as_bytes(),
+        plan: &plan,
         program,
         lines: &material.lines,
         runs: drawn_runs(&material.runs, &word, greedy.ends_at),

@@ -142,6 +142,7 @@ fn told_ahead(sign: u8, fields: &[u8], version: Version) -> Option<(Event, &[u8]
 
 /// Returns the event whose line is at the front of bytes with its line feed, and how many bytes that line has. It need not
 /// be found: a line with longer numbers, one near the end of the bytes and an end of the first version are not.
+#[inline(always)]
 pub fn event_ahead(bytes: &[u8], version: Version) -> Option<(Event, usize)>
     ensures { IfSome result (λ x. IsLineAhead (spelling version) bytes.now x.0 x.1) }
 {

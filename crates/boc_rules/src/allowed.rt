@@ -23,6 +23,7 @@ impl RunSoFar {
     ghost use Rattle.boc_rules.specs.Judges.{Judges};
 
     /// Checks that the event keeps every rule, and otherwise returns the first that it breaks.
+    #[inline(always)]
     pub fn judge(&self, event: &Event) -> Result<(), BrokenRule>
         requires { IsRunSoFar self.now }
         ensures { Judges self.now.cowns (so_far self.now) event.now result }

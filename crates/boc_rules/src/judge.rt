@@ -50,6 +50,7 @@ impl Judge {
     /// Takes the event if it keeps the rules, and otherwise answers the first rule that it breaks. Space is made
     /// for a spawn that finds none, and is refused only where the spawn keeps the rules. Nothing changes after a
     /// refusal. The time goes with the number of the event's cowns, amortised.
+    #[inline(always)]
     pub fn take(&mut self, event: Event) -> Result<(), RuleFault>
         ensures { Steps self.old event result self.new }
     {
@@ -64,6 +65,7 @@ impl Judge {
     }
 
     /// Checks that the event keeps every rule, and otherwise returns the first that it breaks.
+    #[inline(always)]
     pub fn judge(&self, event: &Event) -> Result<(), BrokenRule>
         ensures { Judges self.now.cowns self.now.rows event.now result }
     {
@@ -89,6 +91,7 @@ impl Judge {
 
     /// Takes an event that keeps the rules. For a spawn there must be room, which it takes. It takes no memory,
     /// and judges nothing.
+    #[inline(always)]
     pub fn put(&mut self, event: Event)
         requires allowed { IsAllowed self.old.cowns self.old.rows event }
         requires room { HasRoomFor self.old.rooms event }

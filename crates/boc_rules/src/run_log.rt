@@ -39,7 +39,8 @@ impl Model for RunLog {
     ghost invariant = { λ l. IsRunLog l.cowns l.rows.items l.happenings.items l.rooms (vec_capacity l.rows) (vec_capacity l.happenings) };
 }
 
-// Keeps what the rows have to report on an event, for which there is room.
+// Keeps what the rows have to report on an event, for which there is room. Callers name the kind of the event, so little is left of it in each.
+#[inline(always)]
 fn keep(rows: &mut Vec<Row>, rooms: &mut usize, event: Event)
     requires can { CanKeep rows.old.items event }
     requires has { HasRoomFor rooms.old event }
@@ -106,6 +107,7 @@ impl RunLog {
 
     /// Puts an event that keeps the rules after the others. For a spawn there must be room, which it takes. It takes
     /// no memory, and judges nothing.
+    #[inline(always)]
     pub fn put(&mut self, event: Event)
         requires allowed { IsAllowed self.old.cowns (entries self.old.events) event }
         requires room { HasRoomFor self.old.rooms event }

@@ -74,6 +74,7 @@ impl RunSoFar {
     }
 
     /// Goes on by an event that keeps the rules, for which there is room.
+    #[inline(always)]
     pub fn accept(&mut self, event: Event)
         requires kept { IsRunSoFar self.old }
         requires allowed { IsAllowed self.old.cowns (so_far self.old) event }

@@ -4,9 +4,9 @@ ghost use Rattle.std.specs.Prelude.{◌≡◌};
 ghost use Rattle.boc_registers.specs.Steps.{wish_of as wish_asked};
 ghost use Rattle.boc_eval.specs.Wishes.{wish_of};
 
+use crate::lists::refill;
 use boc_program::short::{Args, Cowns};
 use boc_registers::step::Asked;
-use std::mem;
 
 /// A wish for a behaviour, made by a `when`.
 #[derive(Drop, Debug)]
@@ -32,15 +32,15 @@ impl SpawnWish {
         }
     }
 
-    /// Takes over what a body asked for. What is left there says nothing.
+    /// Takes over what a body asked for.
     #[inline(always)]
-    pub(crate) fn take_over(&mut self, asked: &mut Asked)
-        ensures { wish_of self.new ≡ wish_asked asked.old }
+    pub(crate) fn take_over(&mut self, asked: &Asked)
+        ensures { wish_of self.new ≡ wish_asked asked.now }
     {
         self.offset = asked.offset;
         self.kind = asked.kind;
-        mem::swap(&mut self.args, &mut asked.args);
-        mem::swap(&mut self.cowns, &mut asked.cowns);
+        refill(&mut self.args, asked.args.as_slice());
+        refill(&mut self.cowns, asked.cowns.as_slice());
     }
 
     /// Returns the same wish once more. It takes no memory.

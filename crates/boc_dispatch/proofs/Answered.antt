@@ -40,9 +40,9 @@ use Rattle.boc_dispatch.specs.declared.calls.Started.TheVariants as started
 use Rattle.boc_dispatch.specs.declared.live.Live.{Live}
 use Rattle.boc_dispatch.specs.declared.roster.Enqueue.{Enqueue}
 use Rattle.boc_dispatch.specs.Underway.{Underway}
-use Rattle.boc_dispatch.specs.Calls.{in_state, IsHandedOut, Begins, IsNextWish, MayAsk, OpensWish, AdvancesChild, FinishesRow, LeavesCown}
+use Rattle.boc_dispatch.specs.Calls.{in_state, IsHandedOut, Begins, BeginsFrame, IsNextWish, MayAsk, OpensWish, AdvancesChild, FinishesRow, LeavesCown}
 use Rattle.boc_dispatch.specs.Inside.{Parts, state, underway, open_of, behaviour_of, IsKept, IsAtStage, IsNew, Stays}
-use Rattle.boc_dispatch.specs.Moves.{IsFoundEnqueue, SettlesNext, EndsBehaviour, ReleasesNext}
+use Rattle.boc_dispatch.specs.Moves.{StartsFrame, IsFoundEnqueue, SettlesNext, EndsBehaviour, ReleasesNext}
 use Rattle.boc_dispatch.proofs.Homes.{counts_there}
 use Rattle.boc_dispatch.proofs.Tables.{at_slot, behaviours_length}
 
@@ -54,6 +54,10 @@ moved d e same = λ i. record { program = same i; state = state e }
 
 pub none_ready : (d e : Parts) → Stays d e → (state d).ready ≡ [] → (IsQuiet (state e) → ⊥) → Begins (underway d) started.NoneReady (underway e)
 none_ready d e stays none busy = (stays, none, λ quiet. busy (subst (λ (u : Underway). IsQuiet u.state) (sym stays) quiet))
+
+pub begins_frame : (d e : Parts) (r : Option (ℕ × Framed)) → StartsFrame d r e → BeginsFrame (underway d) r (underway e)
+begins_frame d e None s = s
+begins_frame d e (Some (row, f)) s = (s.0.0, state e, s.0.1, moved d e s.0.2, s.0.3, s.1)
 
 -- ---- open
 

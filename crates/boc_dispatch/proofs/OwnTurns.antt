@@ -38,7 +38,7 @@ use Rattle.boc_dispatch.specs.declared.worker.Hand.{Hand}
 use Rattle.boc_dispatch.specs.declared.worker.Due.TheVariants as dues
 use Rattle.boc_dispatch.specs.declared.worker.Hand.TheVariants as hands
 use Rattle.boc_dispatch.specs.Underway.{Underway}
-use Rattle.boc_dispatch.specs.Calls.{in_state, Begins, OpensWish, AdvancesChild, FinishesRow, LeavesCown, IsHandedOut, IsLeaving}
+use Rattle.boc_dispatch.specs.Calls.{in_state, Begins, BeginsFrame, OpensWish, AdvancesChild, FinishesRow, LeavesCown, IsHandedOut, IsLeaving}
 use Rattle.boc_dispatch.specs.Driving.{IsFrameOf, IsWishing, IsEnqueuing, HandFits}
 use Rattle.boc_dispatch.proofs.Elsewhere.{logged, same_woken}
 use Rattle.boc_dispatch.proofs.Hands.{same_member, starting_waits, releases_on}
@@ -95,6 +95,24 @@ module _ (u : Underway) (sound : IsSound u.program u.state) (who row : ℕ) (t :
           all = sym (spawned_at_start h.member there);
         };
       }
+
+  frame_fits : (f : Framed) → IsHandedOut (in_state u t) row f.body f.args f.inputs → f.made ≡ 0 → HandFits (in_state u t) (hands.Framed row f dues.Going)
+  frame_fits f h none =
+      record {
+        handed = h;
+        spawned = record {
+          none_open = subst (λ (z : State). HasNoEnqueue z row) (sym m.gives) none_open_at_start;
+          member = h.member;
+          is = h.is;
+          all = none ∙ sym (spawned_at_start h.member h.is);
+        };
+      }
+
+pub begins_frame_fits : (u v : Underway) (row : ℕ) (f : Framed) → IsSound u.program u.state → BeginsFrame u (Some (row, f)) v
+    → HandFits v (hands.Framed row f dues.Going)
+begins_frame_fits u v row f sound b =
+    subst (λ (x : Underway). HandFits x (hands.Framed row f dues.Going)) (sym b.3)
+    (frame_fits u sound b.0 row b.1 b.2 f (subst (λ (x : Underway). IsHandedOut x row f.body f.args f.inputs) b.3 b.4) b.5)
 
 pub begins_fits : (u v : Underway) (job : Job) → IsSound u.program u.state → Begins u (started.Job job) v → HandFits v (hands.Started job)
 begins_fits u v job sound b =

@@ -25,7 +25,7 @@ use Rattle.boc_dispatch.specs.declared.worker.Due.TheVariants as dues
 use Rattle.boc_dispatch.specs.declared.worker.Hand.TheVariants as hands
 use Rattle.boc_dispatch.specs.declared.worker.Turn.TheVariants as turns
 use Rattle.boc_dispatch.specs.Underway.{Underway}
-use Rattle.boc_dispatch.specs.Calls.{in_state, Begins, OpensWish, AdvancesChild, FinishesRow, LeavesCown}
+use Rattle.boc_dispatch.specs.Calls.{in_state, Begins, BeginsFrame, OpensWish, AdvancesChild, FinishesRow, LeavesCown}
 use Rattle.boc_dispatch.specs.Working.{row_in, MakesTurn, Works, HasThought, IsToThink}
 
 -- a step to another state of the same program
@@ -36,6 +36,11 @@ made u v h k step t is takes makes =
 
 pub begins : (u v : Underway) (job : Job) → Begins u (started.Job job) v → Works u hands.Nothing (turns.Moved steps.Start) v (hands.Started job)
 begins u v job b = made u v hands.Nothing (hands.Started job) steps.Start b.1 b.3 (BeginsTurn b.0 job.row b.1 b.2) (b.0, job.row, b.2)
+
+pub begins_frame : (u v : Underway) (row : ℕ) (f : Framed) → BeginsFrame u (Some (row, f)) v
+    → Works u hands.Nothing (turns.Moved steps.Start) v (hands.Framed row f dues.Going)
+begins_frame u v row f b =
+    made u v hands.Nothing (hands.Framed row f dues.Going) steps.Start b.1 b.3 (BeginsTurn b.0 row b.1 b.2) (b.0, row, b.2)
 
 pub opens : (u v : Underway) (row : ℕ) (f : Framed) (child : Child) → OpensWish u f row (Ok child) v
     → Works u (hands.Framed row f dues.Wishing) (turns.Moved steps.Open) v (hands.Framed row f (dues.Enqueuing child))

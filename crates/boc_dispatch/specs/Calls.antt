@@ -53,6 +53,12 @@ Begins u (started.Job job) v =
 Begins u started.NoneReady v = (v ≡ u) × (u.state.ready ≡ []) × (IsQuiet u.state → ⊥)
 Begins u started.Quiet v = (v ≡ u) × IsQuiet u.state
 
+-- the first of the ready list started, and this is its row, and its body at its start; or nothing is ready
+abbrev pub BeginsFrame : Underway → Option (ℕ × Framed) → Underway → Type 0
+BeginsFrame u None v = (v ≡ u) × (u.state.ready ≡ [])
+BeginsFrame u (Some (row, f)) v =
+    (who : ℕ) × (t : State) × Starts u.state who row t × (v ≡ in_state u t) × IsHandedOut v row f.body f.args f.inputs × (f.made ≡ 0)
+
 -- ---- open
 
 -- the last of so many wishes of a row is the next to be spawned, and none of them is being enqueued

@@ -1,5 +1,8 @@
 -- What the functions of the roster do to what it has in hand.
-use Rattle.std.specs.Prelude.{◌≡◌, ◌≢◌, ℕ, ◌+◌, ◌^◌, ◌<◌, Bool, true, false, List, [], ◌∷◌, ◌++◌, length, slice_set, Option, Some, None, Result, Ok, Err}
+use Rattle.std.specs.Prelude.{◌≡◌, ◌≢◌, ℕ, ◌+◌, ◌^◌, ◌<◌, Bool, true, false, List, [], ◌∷◌, ◌++◌, ℤ, length, slice_set, Option, Some, None, Result, Ok, Err}
+use Rattle.boc_program.specs.declared.body.Body.{Body}
+use Rattle.boc_program.specs.declared.short.Input.{Input}
+use Rattle.boc_eval.specs.Frames.{UnderWay as Framed}
 use Rattle.boc_runs.specs.declared.stage.Phase.TheVariants.{Leaving as LeavingPhase, Running as RunningPhase}
 use Rattle.boc_runs.specs.declared.stage.Stage.TheVariants.{Recorded}
 use Rattle.boc_runs.specs.declared.step.Step.TheVariants.{Settle}
@@ -88,11 +91,20 @@ pub record Puts (d : Parts) (parent slot : ℕ) (child this : Live) (e : Parts) 
 
 -- ---- what the public functions do
 
+-- the first of the ready list started as this row, on this body, these arguments and inputs
+abbrev pub StartsRow : Parts → ℕ → Body → List ℤ → List Input → Parts → Type 0
+StartsRow d row body args inputs e =
+    (who : ℕ) × Starts (state d) who row (state e) × (e.program ≡ d.program) × IsHandedOut (underway e) row body args inputs
+
 -- the first of the ready list started, and this is what its body is to be run on; or none is ready
 abbrev pub StartsJob : Parts → Option Job → Parts → Type 0
 StartsJob d None e = Stays d e × ((state d).ready ≡ [])
-StartsJob d (Some job) e =
-    (who : ℕ) × Starts (state d) who job.row (state e) × (e.program ≡ d.program) × IsHandedOut (underway e) job.row job.body job.args.items job.inputs.items
+StartsJob d (Some job) e = StartsRow d job.row job.body job.args.items job.inputs.items e
+
+-- the first of the ready list started, and this is its row, and its body at its start; or none is ready
+abbrev pub StartsFrame : Parts → Option (ℕ × Framed) → Parts → Type 0
+StartsFrame d None e = Stays d e × ((state d).ready ≡ [])
+StartsFrame d (Some (row, f)) e = StartsRow d row f.body f.args f.inputs e × (f.made ≡ 0)
 
 -- the next wish of a row is opened, under this token; or memory was refused, and nothing changed
 abbrev pub OpensChild : {A : Type 0} → Parts → ℕ → Result Child A → Parts → Type 0

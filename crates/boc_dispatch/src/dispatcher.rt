@@ -1,13 +1,13 @@
 //! The dispatcher: each call makes one step of the machine.
 
 ghost use Rattle.boc_program.specs.Programs.{cown_count as cowns_of};
-ghost use Rattle.std.specs.Prelude.{◌≡◌, ◌↔◌, ◌+◌, ◌^◌, ◌<◌, ℕ, [], None, IfOk, IsTrue, false, map, replicate, slice_get};
+ghost use Rattle.std.specs.Prelude.{◌≡◌, ◌↔◌, ◌+◌, ◌^◌, ◌<◌, ℕ, [], None, IfOk, IsSome, IsTrue, false, map, replicate, slice_get};
 
 use crate::calls::{Advanced, Child, FinishFault, Leaving, Left, Mover, OpenFault, Started};
 use crate::live::wished_behaviour;
 use crate::roster::{Enqueue, Roster};
 use boc_chain::{Chains, LinkChains};
-use boc_eval::{Frame, Outcome, ToldRow};
+use boc_eval::{Frame, Outcome, Spare, ToldRow};
 use boc_program::limits::MOST_ROWS;
 use boc_program::program::Program;
 use boc_registers::compiled::CompiledProgram;
@@ -75,7 +75,7 @@ impl<'a, C: Chains + Drop> Core<'a, C> {
     ghost use Rattle.boc_runs.specs.machine.Movers.{CanAdvance, CanLeave};
     ghost use Rattle.boc_runs.specs.machine.Sound.{IsSound};
     ghost use Rattle.boc_dispatch.specs.Told.{TellsRow};
-    ghost use Rattle.boc_dispatch.specs.Calls.{Begins, OpensWish, AdvancesChild, FinishesRow, with_outcome, LeavesCown, NamesMover, EndsAsRecord};
+    ghost use Rattle.boc_dispatch.specs.Calls.{Begins, BeginsFrame, OpensWish, AdvancesChild, FinishesRow, with_outcome, LeavesCown, NamesMover, EndsAsRecord};
 
     /// Returns the opening state over chains with no request: main is opened, its spawn is recorded, and it is ready.
     pub fn over(
@@ -107,6 +107,14 @@ impl<'a, C: Chains + Drop> Core<'a, C> {
                 }
             }
         }
+    }
+
+    // Starts the first behaviour of the ready list, if there is one, on the memory of a body that has ended. Returns its row, and its body at its start.
+    pub(crate) fn start_on(&mut self, spare: &mut Spare<'a>) -> Option<(u32, Frame<'a>)>
+        requires { IsSome spare.old }
+        ensures begins { BeginsFrame self.old result self.new }
+    {
+        self.roster.start_on(spare)
     }
 
     /// Opens the next wish of a running behaviour. All memory that the wished behaviour will ever need is taken here.

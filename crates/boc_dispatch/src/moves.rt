@@ -1,6 +1,6 @@
 //! What a step does to a behaviour.
 
-ghost use Rattle.std.specs.Prelude.{◌≡◌, ◌==◌, ◌+◌, ◌^◌, ◌<◌, ◌≤◌, nat_lt, suc, None, Some, IsSome, ℕ, length, map, slice_get};
+ghost use Rattle.std.specs.Prelude.{◌≡◌, ◌==◌, ◌+◌, ◌^◌, ◌<◌, ◌≤◌, nat_lt, suc, false, None, Some, IsSome, ℕ, length, map, slice_get};
 ghost use Rattle.boc_runs.specs.declared.stage.Phase.TheVariants as phases;
 ghost use Rattle.boc_runs.specs.machine.Stages.{row_at};
 ghost use Rattle.boc_runs.specs.machine.Steps.{flagging};
@@ -11,6 +11,7 @@ ghost use Rattle.boc_dispatch.specs.Places.{in_phase, begun, with_child, with_sp
 use crate::calls::Job;
 use crate::kept_stage::KeptStage;
 use crate::live::Live;
+use boc_eval::{Frame, Spare};
 use boc_program::short::Args;
 use boc_registers::compiled::CompiledProgram;
 use boc_runs::event::Event;
@@ -38,6 +39,40 @@ impl Live {
             args: Args::try_from(self.args.as_slice()).unwrap(),
             inputs: inputs_of(&self.params.widened(), values),
         }
+    }
+
+    /// Starts it on the current values, as `begin` does, and on the memory of a body that has ended. Returns its row, and its body at its start.
+    pub fn begin_on<'a>(
+        &mut self,
+        program: &'a CompiledProgram<'a>,
+        values: &[i64],
+        spare: &mut Spare<'a>,
+    ) -> (u32, Frame<'a>)
+        requires ready { IsSome spare.old }
+        requires recorded { IsSome (row_at self.old.stage) }
+        requires counts { let signature = slice_get (map signature_of program.now.bodies) self.old.kind in
+            CountsAre signature (length self.old.args.items) (length self.old.params.items) }
+        requires below { AllBelow (length values.now) self.old.params.items }
+        ensures started { self.new ≡ begun result.0 self.old }
+        ensures row { row_at self.old.stage ≡ Some result.0 }
+        ensures body { slice_get program.now.bodies self.old.kind ≡ Some result.1.body }
+        ensures frame { result.1 ≡ record {
+          body = result.1.body;
+          args = self.old.args.items;
+          inputs = inputs self.old.params.items values.now;
+          made = 0;
+          ended = false;
+        } }
+    {
+        let row = self.recorded_row();
+        self.go_on(row, Phase::Running);
+        let frame = spare.begin(
+            program.body(self.kind as usize),
+            self.args.as_slice(),
+            self.params.as_slice(),
+            values,
+        );
+        (row, frame)
     }
 
     /// Returns the row under which its spawn is recorded.

@@ -9,7 +9,7 @@ ghost use Rattle.boc_dispatch.specs.Inside.{live_at};
 use crate::calls::{Advanced, Child, Job, Left};
 use crate::live::{Live, main_behaviour};
 use boc_chain::{Chains, Released, Settled, Slot};
-use boc_eval::{Frame, Instance, Outcome, SpawnWish, ToldRow};
+use boc_eval::{Frame, Instance, Outcome, Spare, SpawnWish, ToldRow};
 use boc_program::body::Body;
 use boc_program::short::{Args, Cowns, Input};
 use boc_registers::compiled::CompiledProgram;
@@ -129,7 +129,7 @@ impl<'a, C: Chains + Drop> Roster<'a, C> {
     ghost use Rattle.boc_chain.specs.Chain.{times, slots, list};
     ghost use Rattle.boc_dispatch.specs.Inside.{parts_of, state, underway, IsSoundRoster, IsAtStage, IsStageAt, IsOfRow, HasInHand, GoesOn, IsNew};
     ghost use Rattle.boc_dispatch.specs.Grants.{MayBeGranted, with_granted, IsRemoved, IsReleased, LeftAs};
-    ghost use Rattle.boc_dispatch.specs.Moves.{MayPut, Puts, vacated, MayRecord, Records, counted, StartsJob, OpensChild, IsFoundEnqueue, SettlesNext};
+    ghost use Rattle.boc_dispatch.specs.Moves.{MayPut, Puts, vacated, MayRecord, Records, counted, StartsJob, StartsFrame, OpensChild, IsFoundEnqueue, SettlesNext};
     ghost use Rattle.boc_dispatch.specs.Moves.{EndsBehaviour, ReleasesNext, IsFoundLeaving};
 
     /// Opens main over chains with no request: its spawn is recorded, and it is ready.
@@ -190,6 +190,20 @@ impl<'a, C: Chains + Drop> Roster<'a, C> {
         self.log.put(Event::Start { row: job.row });
         self.steps += 1;
         Some(job)
+    }
+
+    /// Starts the first behaviour of the ready list, if there is one, on the memory of a body that has ended. Returns its row, and its body at its start.
+    pub fn start_on(&mut self, spare: &mut Spare<'a>) -> Option<(u32, Frame<'a>)>
+        requires sound { IsSoundRoster C.lists C.place self.old }
+        requires ready { IsSome spare.old }
+        ensures sound { IsSoundRoster C.lists C.place self.new }
+        ensures starts { StartsFrame (parts_of C.lists C.place self.old) result (parts_of C.lists C.place self.new) }
+    {
+        let first = self.ready.pop_front()?;
+        let begun = self.live[first as usize].begin_on(self.program, &self.values, spare);
+        self.log.put(Event::Start { row: begun.0 });
+        self.steps += 1;
+        Some(begun)
     }
 
     // Returns the slot of a row's behaviour, if that isn't gone.

@@ -1,6 +1,6 @@
 //! A worker that serves one behaviour after another.
 
-ghost use Rattle.std.specs.Prelude.{◌≡◌, ◌↔◌, ℕ, false, IfOk, IsTrue, None, OnErr, OnOk, length};
+ghost use Rattle.std.specs.Prelude.{◌≡◌, ◌↔◌, ℕ, [], false, IfOk, IsTrue, None, OnErr, OnOk, length};
 
 use crate::calls::{Advanced, Child, FinishFault, Job, Leaving, Left, OpenFault, Started, Tell};
 use crate::dispatcher::Core;
@@ -152,6 +152,7 @@ impl<'a> Worker<'a> {
     /// Makes the frame of a behaviour that was just started, or goes on with a frame whose wish was enqueued, up to the next
     /// wish or the end. At other times it does nothing. Only a new frame takes memory, and where that is refused the worker is
     /// as before.
+    #[inline(always)]
     pub fn think(&mut self, alloc: Global) -> Result<(), AllocError>
         ensures thinks { HasThought self.old.hand result self.new.hand }
         ensures number { self.new.number ≡ self.old.number }
@@ -160,7 +161,7 @@ impl<'a> Worker<'a> {
             Hand::Started(_) => take_up(alloc, &mut self.spare, &mut self.hand),
             Hand::Framed(_, _, due) => match *due {
                 Due::Going => {
-                    go_on(&mut self.hand);
+                    run_on(&mut self.hand);
                     Ok(())
                 }
                 _ => Ok(()),
@@ -264,12 +265,13 @@ impl<'a> Worker<'a> {
                 leave(&mut self.hand, leaving, core)
             }
             Hand::Done(..) => finish(&mut self.spare, &mut self.hand, core),
-            Hand::Nothing => begin(&mut self.hand, core),
+            Hand::Nothing => begin(&mut self.spare, &mut self.hand, core),
         }
     }
 }
 
 // Makes the frame of a behaviour that was started, which goes on.
+#[inline(never)]
 fn take_up<'a>(alloc: Global, spare: &mut Spare<'a>, hand: &mut Hand<'a>) -> Result<(), AllocError>
     requires { IsStarted hand.old }
     ensures { HasThought hand.old result hand.new }
@@ -290,7 +292,8 @@ fn take_up<'a>(alloc: Global, spare: &mut Spare<'a>, hand: &mut Hand<'a>) -> Res
 }
 
 // A frame goes on to its next wish, or its end.
-fn go_on(hand: &mut Hand<'_>)
+#[inline(never)]
+fn run_on(hand: &mut Hand<'_>)
     requires { Goes hand.old }
     ensures { (row : ℕ) (f : Framed) → hand.old ≡ hands.Framed row f dues.Going → HasGoneOn row f hand.new }
 {
@@ -325,8 +328,43 @@ fn end(hand: &mut Hand<'_>)
     };
 }
 
-// Makes the turn of a worker that serves no row.
-fn begin<'a, C: Chains + Drop>(hand: &mut Hand<'a>, core: &mut Core<'a, C>) -> Turn
+// Makes the turn of a worker that serves no row. Where a body has ended, the next one begins at once in its memory.
+fn begin<'a, C: Chains + Drop>(
+    spare: &mut Spare<'a>,
+    hand: &mut Hand<'a>,
+    core: &mut Core<'a, C>,
+) -> Turn
+    requires { hand.old ≡ hands.Nothing }
+    ensures works { Works core.old hand.old result core.new hand.new }
+    ensures fits { KeepsFitting core.old hand.old core.new hand.new }
+{
+    if !spare.is_ready() {
+        return begin_first(hand, core);
+    }
+    match core.start_on(spare) {
+        Some((row, frame)) => {
+            *hand = Hand::Framed(row, frame, Due::Going);
+            Turn::Moved(Step::Start)
+        }
+        None => idle_turn(core),
+    }
+}
+
+// Returns the turn of a worker that serves no row, where none is ready.
+fn idle_turn<'a, C: Chains + Drop>(core: &Core<'a, C>) -> Turn
+    requires { core.now.state.ready ≡ [] }
+    ensures { Works core.now hands.Nothing result core.now hands.Nothing }
+{
+    if core.is_quiet() {
+        Turn::Quiet
+    } else {
+        Turn::NoneReady
+    }
+}
+
+// Makes the turn of a worker that serves no row, where no body of the worker has ended yet. Were it inlined, its caller would clear space for a job each time.
+#[inline(never)]
+fn begin_first<'a, C: Chains + Drop>(hand: &mut Hand<'a>, core: &mut Core<'a, C>) -> Turn
     requires { hand.old ≡ hands.Nothing }
     ensures works { Works core.old hand.old result core.new hand.new }
     ensures fits { KeepsFitting core.old hand.old core.new hand.new }

@@ -7,7 +7,7 @@ use Rattle.boc_dispatch.specs.declared.worker.Due.TheVariants as dues
 use Rattle.boc_dispatch.specs.declared.worker.Hand.{Hand}
 use Rattle.boc_dispatch.specs.declared.worker.Hand.TheVariants as hands
 use Rattle.boc_dispatch.specs.Working.{HasGiven, HasGoneOn}
-use Rattle.boc_dispatch.proofs.worker.go_on.Goals as goal
+use Rattle.boc_dispatch.proofs.worker.run_on.Goals as goal
 
 -- what a frame gives that has just ended
 ended : (row : ℕ) (f g : Framed) (due : Due) (k : Hand) → BodyEnds f g → HasGiven (hands.Framed row g due) k → HasGoneOn row f k

@@ -258,6 +258,7 @@ impl<'a, 'g, 'r, L: Ledger, G: Gate, R: Wait> Hall<'a, 'g, 'r, L, G, R> {
         let mut made = made;
         let mut worker = Worker::new(number);
         let mut pace = Pace::new();
+        let mut has_looked = false;
         self.begin(number);
         for _ in self.rt.forever() {
             if worker.think(self.alloc).is_err() {
@@ -265,7 +266,7 @@ impl<'a, 'g, 'r, L: Ledger, G: Gate, R: Wait> Hall<'a, 'g, 'r, L, G, R> {
                 break;
             }
             let served = worker.row();
-            match self.turn(&mut worker, &mut made, &mut pace) {
+            match self.turn(&mut worker, &mut made, &mut pace, &mut has_looked) {
                 None | Some(Turn::Quiet) => break,
                 Some(Turn::Moved(step)) => {
                     let row = served.or(worker.row()).unwrap_or(0);
@@ -287,31 +288,56 @@ impl<'a, 'g, 'r, L: Ledger, G: Gate, R: Wait> Hall<'a, 'g, 'r, L, G, R> {
         }
     }
 
-    // Makes the next turn of a worker that isn't to wait for others.
-    fn turn(&self, worker: &mut Worker<'a>, made: &mut Made<L>, pace: &mut Pace) -> Option<Turn> {
-        let waiters = &self.waiters;
+    // Makes the next turn of a worker. Where that waits for others, the worker waits too, and the turn is to be made again.
+    #[inline(always)]
+    fn turn(
+        &self,
+        worker: &mut Worker<'a>,
+        made: &mut Made<L>,
+        pace: &mut Pace,
+        has_looked: &mut bool,
+    ) -> Option<Turn> {
         let mut shared = match self.lock.try_lock() {
             Some(shared) => shared,
             None => self.enter_at_pace(worker, pace),
         };
-        let mut has_looked = false;
-        for _ in self.rt.forever() {
-            let turn = shared.turn(worker, made);
-            shared = match (turn, has_looked) {
-                (Some(Turn::Blocked), false) => self.look(shared, &waiters.blocked, &self.freed),
-                (Some(Turn::Blocked), true) => self.sleep(shared),
-                (Some(Turn::NoneReady), false) => self.look(shared, &waiters.looking, &self.seen),
-                (Some(Turn::NoneReady), true) => self.rest(shared),
-                _ => {
-                    let call = waiters.call_after(&shared, turn);
-                    drop(shared);
-                    self.call(call);
-                    return turn;
-                }
-            };
-            has_looked = !has_looked;
+        let turn = shared.turn(worker, made);
+        match turn {
+            Some(Turn::Blocked) => {
+                self.wait(shared, true, has_looked);
+                return turn;
+            }
+            Some(Turn::NoneReady) => {
+                self.wait(shared, false, has_looked);
+                return turn;
+            }
+            _ => {}
         }
-        None
+        *has_looked = false;
+        let call = self.waiters.call_after(&shared, turn);
+        drop(shared);
+        if call != Call::Nobody {
+            self.call(call);
+        }
+        turn
+    }
+
+    // Frees the lock, and waits for a row to be ready or, if the worker is blocked, for a request: it looks for it at first, and sleeps once it has looked.
+    #[inline(never)]
+    fn wait<'s>(
+        &'s self,
+        shared: MutexGuard<'s, Shared<'a, 'g, L, G>>,
+        is_blocked: bool,
+        has_looked: &mut bool,
+    ) {
+        let waiters = &self.waiters;
+        drop(match (is_blocked, *has_looked) {
+            (true, false) => self.look(shared, &waiters.blocked, &self.freed),
+            (true, true) => self.sleep(shared),
+            (false, false) => self.look(shared, &waiters.looking, &self.seen),
+            (false, true) => self.rest(shared),
+        });
+        *has_looked = !*has_looked;
     }
 
     // Takes the lock.
@@ -455,6 +481,7 @@ impl<'a, 'g, 'r, L: Ledger, G: Gate, R: Wait> Hall<'a, 'g, 'r, L, G, R> {
     }
 
     // Calls those who wait and may go on.
+    #[inline(never)]
     fn call(&self, call: Call) {
         match call {
             Call::Nobody => {}

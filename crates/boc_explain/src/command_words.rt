@@ -38,10 +38,10 @@ const UNEXPECTED: &[u8] = b"error: unexpected argument '";
 // What it says where there is one FILE too many, and it names none.
 const TWO_FILES: &[u8] = b"error: the input cannot be read from more than one FILE";
 
-// A word is near to a name where so many edits lead from the one to the other: a byte more, less or another one, or two that change places.
+// A word is near to a name where this many edits lead from the one to the other: a byte more, less or another one, or two that change places.
 const MOST_EDITS: usize = 2;
 
-// So many bytes of a word may have one edit.
+// A word may have one edit for each this many bytes.
 const BYTES_PER_EDIT: usize = 3;
 
 /// Returns what is reported of a word that should be an edit and is none: that with this number among those that look like one, counted from 1.

@@ -161,7 +161,7 @@ fn put_many(said: &mut Said, rows: &[Row], edit: Edit) -> Told {
     said.about(words, &parts)
 }
 
-// Reports the least ticks that a row can take.
+// Reports the fewest ticks that a row can take.
 fn put_below(said: &mut Said, rows: &[Row], row: u32) -> Told {
     let Some((child, tick)) = last_child(rows, row) else {
         return said.about("a row takes at least 1 tick", &[]);

@@ -1,4 +1,4 @@
-// The run that the first lines of a record tell.
+// The run that the first lines of a record are of.
 
 use crate::formed::is_feed;
 use boc_program::body::EndStatus;
@@ -29,7 +29,7 @@ pub(crate) fn line_at<'a>(text: Text<'a>, number: u64) -> Option<&'a [u8]> {
     is_known.then_some(line)
 }
 
-/// Returns the run that the lines before the line with this number tell; one with no rows where the first line is faulty.
+/// Returns the run that the lines before the line with this number are of; one with no rows where the first line is faulty.
 pub(crate) fn run_before(alloc: Global, text: &[u8], line: u64) -> Result<Judge, AllocError> {
     let mut source = Bytes::new(Vec::from_slice(alloc, text)?);
     match read_first(alloc, &mut source, line.saturating_sub(2)) {
@@ -65,7 +65,7 @@ pub(crate) fn life_of(run: &Judge, row: u32) -> Option<Life> {
 
 /// Returns the last child of a row among these rows, and its offset.
 pub(crate) fn last_child(rows: &[Row], parent: u32) -> Option<(u64, u32)> {
-    // Main is nobody's child, although its parent is 0.
+    // Main is no behaviour's child, although its parent is 0.
     let mut children = rows.iter().enumerate().skip(1);
     let (child, row) = children.rfind(|(_, row)| row.parent == parent)?;
     Some((child as u64, row.offset))
